@@ -1,0 +1,65 @@
+use Prim.Native.Nat.{_≤_, _-_, _<_, _+_}
+use native.Mathlib.Omega.{arith}
+use borrow.Author.Tests.{lt-ltb, le-ltb}
+use denote.Ref.{now}
+use mathlib.Core.Path.{_≡_, _∙_, sym, refl}
+use lib.ListN.{length}
+use Rattle.scan.specs.Scan.{isHigh, placeFrom}
+use Rattle.scan.proofs.Laws.{place-here, place-on, place-end}
+use Rattle.scan.proofs.first_high.Statement.{statement}
+use Rattle.scan.proofs.first_high.Tie as tie
+use Rattle.scan.proofs.first_high.Reads as reads
+use Rattle.scan.proofs.first_high.Lts as lts
+
+abbrev Inv-loop : tie.InvT-loop
+Inv-loop s i₀ i = placeFrom isHigh s 0 ≡ placeFrom isHigh s i
+
+abbrev μ-loop : tie.MeasureT-loop
+μ-loop s i₀ i = length s - i
+
+-- src/lib.rt:86:5
+loop-holds : tie.Need-loop-holds Inv-loop μ-loop
+loop-holds c = refl
+
+-- src/lib.rt:87:18
+shared-slice-read-if1 : tie.Need-shared-slice-read-if1 Inv-loop μ-loop
+shared-slice-read-if1 c = omega arith
+
+-- src/lib.rt:88:13
+returns : tie.Need-returns Inv-loop μ-loop
+unfolding isHigh
+returns c = let w = c .before .before .before .loop in
+    sym (w .inv ∙ place-here isHigh _ (w .i) (c .before .before .loop-test .taken) (lt-ltb _ _ (c .if1 .taken)))
+
+-- src/lib.rt:90:9
+add-i : tie.Need-add-i Inv-loop μ-loop
+add-i c = omega arith
+
+-- src/lib.rt:86:5
+loop-less : tie.Need-loop-less Inv-loop μ-loop
+loop-less c = omega arith
+
+-- src/lib.rt:86:5
+loop-again : tie.Need-loop-again Inv-loop μ-loop
+unfolding isHigh
+loop-again c = let w = c .before .before .before .loop in
+    w .inv ∙ place-on isHigh _ (w .i) (c .before .before .loop-test .taken) (le-ltb _ _ (c .if1 .left))
+
+-- src/lib.rt:82:1
+returns-2 : tie.Need-returns-2 Inv-loop μ-loop
+returns-2 c = let w = c .before .loop in
+    sym (w .inv ∙ place-end isHigh _ (w .i) (c .loop-test .left))
+
+pub first-high-spec : {M : Type 1} → statement M
+first-high-spec =
+    tie.close
+    (tie.spec
+    Inv-loop
+    μ-loop
+    loop-holds
+    shared-slice-read-if1
+    returns
+    add-i
+    loop-less
+    loop-again
+    returns-2)

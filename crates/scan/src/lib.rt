@@ -1,0 +1,93 @@
+ghost use mathlib.Core.Path.{_≡_};
+ghost use Prim.Native.Nat.{_+_};
+ghost use mathlib.Core.Bool.{not};
+ghost use Rattle.scan.specs.Scan.{isSpace, isNot, isLineFeed, isHigh, placeFrom};
+
+// A part of a text, from `start` up to `end`; empty where there is none.
+pub struct Span {
+    pub start: usize,
+    pub end: usize,
+}
+
+// Space, tab, LF, FF, CR.
+fn is_space(b: u8) -> bool
+    ensures { λ r. ⌜ r ≡ isSpace b ⌝ }
+{
+    if b == 9 {
+        return true;
+    }
+    if b == 10 {
+        return true;
+    }
+    if b == 12 {
+        return true;
+    }
+    if b == 13 {
+        return true;
+    }
+    b == 32
+}
+
+// The first place from `at` on that holds a separator, or the end.
+fn token_end(s: &[u8], at: usize) -> usize
+    ensures { λ r. ⌜ r ≡ placeFrom isSpace (now (s .entry)) at ⌝ }
+{
+    let mut i = at;
+    while i < s.len() {
+        if is_space(s[i]) {
+            return i;
+        }
+        i += 1;
+    }
+    i
+}
+
+// The first place from `at` on that holds no separator, or the end.
+fn token_start(s: &[u8], at: usize) -> usize
+    ensures { λ r. ⌜ r ≡ placeFrom (isNot isSpace) (now (s .entry)) at ⌝ }
+{
+    let mut i = at;
+    while i < s.len() {
+        if !is_space(s[i]) {
+            return i;
+        }
+        i += 1;
+    }
+    i
+}
+
+// The first token from `at` on; empty where there is none.
+pub fn token(s: &[u8], at: usize) -> Span
+    ensures { λ r. ⌜ (r .start ≡ placeFrom (isNot isSpace) (now (s .entry)) at) × (r .end ≡ placeFrom isSpace (now (s .entry)) (r .start)) ⌝ }
+{
+    let start = token_start(s, at);
+    Span { start, end: token_end(s, start) }
+}
+
+// The first place from `at` on that holds LF, or the end.
+pub fn line_end(s: &[u8], at: usize) -> usize
+    ensures { λ r. ⌜ r ≡ placeFrom isLineFeed (now (s .entry)) at ⌝ }
+{
+    let mut i = at;
+    while i < s.len() {
+        if s[i] == 10 {
+            return i;
+        }
+        i += 1;
+    }
+    i
+}
+
+// The place of the first byte above 127, or the length.
+pub fn first_high(s: &[u8]) -> usize
+    ensures { λ r. ⌜ r ≡ placeFrom isHigh (now (s .entry)) 0 ⌝ }
+{
+    let mut i = 0;
+    while i < s.len() {
+        if 127 < s[i] {
+            return i;
+        }
+        i += 1;
+    }
+    i
+}

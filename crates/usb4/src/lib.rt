@@ -1,0 +1,270 @@
+ghost use mathlib.Core.Path.{_≡_};
+ghost use Rattle.usb4.specs.Codes.{typeOf, laneStateOf, speedOf, kindOf};
+ghost use Rattle.usb4.specs.Numbers.{typeNumber, stateNumber, speedNumber, kindNumber, tunnelNumber};
+
+// A route has eight bits for each router on the way.
+pub const ROUTE_SHIFT: u32 = 8;
+
+// The codes of adapter types, bits 0 to 23 of ADP_CS_2.
+pub const ADP_CS_2_TYPE_INACTIVE: u32 = 0x000000;
+pub const ADP_CS_2_TYPE_LANE: u32 = 0x000001;
+pub const ADP_CS_2_TYPE_NHI: u32 = 0x000002;
+pub const ADP_CS_2_TYPE_DP_IN: u32 = 0x0e0101;
+pub const ADP_CS_2_TYPE_DP_OUT: u32 = 0x0e0102;
+pub const ADP_CS_2_TYPE_PCIE_DOWN: u32 = 0x100101;
+pub const ADP_CS_2_TYPE_PCIE_UP: u32 = 0x100102;
+pub const ADP_CS_2_TYPE_USB3_DOWN: u32 = 0x200101;
+pub const ADP_CS_2_TYPE_USB3_UP: u32 = 0x200102;
+pub const ADP_CS_2_TYPE_USB3_GENT_DOWN: u32 = 0x210101;
+pub const ADP_CS_2_TYPE_USB3_GENT_UP: u32 = 0x210102;
+
+// The codes of lane states, bits 26 to 29 of LANE_ADP_CS_1.
+pub const LANE_ADP_CS_1_ADAPTER_STATE_DISABLED: u32 = 0x00;
+pub const LANE_ADP_CS_1_ADAPTER_STATE_TRAINING: u32 = 0x01;
+pub const LANE_ADP_CS_1_ADAPTER_STATE_CL0: u32 = 0x02;
+pub const LANE_ADP_CS_1_ADAPTER_STATE_CL0S_TX: u32 = 0x03;
+pub const LANE_ADP_CS_1_ADAPTER_STATE_CL0S_RX: u32 = 0x04;
+pub const LANE_ADP_CS_1_ADAPTER_STATE_CL1: u32 = 0x05;
+pub const LANE_ADP_CS_1_ADAPTER_STATE_CL2: u32 = 0x06;
+pub const LANE_ADP_CS_1_ADAPTER_STATE_CLD: u32 = 0x07;
+
+// The codes of link speeds, bits 16 to 19 of LANE_ADP_CS_1.
+pub const LANE_ADP_CS_1_CURRENT_SPEED_GEN2: u32 = 0x08;
+pub const LANE_ADP_CS_1_CURRENT_SPEED_GEN3: u32 = 0x04;
+pub const LANE_ADP_CS_1_CURRENT_SPEED_GEN4: u32 = 0x02;
+
+// Adapter types, in the order of the Rust's `Type` (debugfs.rs).
+pub enum AdapterType {
+    Unknown,
+    Inactive,
+    Lane,
+    HostInterface,
+    DisplayPortIn,
+    DisplayPortOut,
+    PcieDown,
+    PcieUp,
+    Usb3Down,
+    Usb3Up,
+    Usb3GenTDown,
+    Usb3GenTUp,
+}
+
+// Adapter states, in the order of the Rust's `State`.
+pub enum State {
+    Unknown,
+    Disabled,
+    Enabled,
+    Training,
+    Cl0,
+    Cl0sTx,
+    Cl0sRx,
+    Cl1,
+    Cl2,
+    Cld,
+}
+
+// Link speeds, in the order of the Rust's `Speed`.
+pub enum Speed {
+    Unknown,
+    Gen2,
+    Gen3,
+    Gen4,
+}
+
+// Device kinds, in the order of the Rust's `Kind` (device.rs).
+pub enum Kind {
+    Domain,
+    Router,
+    Xdomain,
+    Retimer,
+    Service,
+    Unknown,
+}
+
+// Tunnel types, in the order of the Rust's `Type` (tunnel.rs).
+pub enum TunnelType {
+    Usb3,
+    DisplayPort,
+    Pcie,
+    Dma,
+}
+
+// The adapter type of a code.
+pub fn adapter_type(code: u32) -> AdapterType
+    ensures { λ r. ⌜ r ≡ typeOf code ⌝ }
+{
+    if code == ADP_CS_2_TYPE_INACTIVE {
+        return AdapterType::Inactive;
+    }
+    if code == ADP_CS_2_TYPE_LANE {
+        return AdapterType::Lane;
+    }
+    if code == ADP_CS_2_TYPE_NHI {
+        return AdapterType::HostInterface;
+    }
+    if code == ADP_CS_2_TYPE_DP_IN {
+        return AdapterType::DisplayPortIn;
+    }
+    if code == ADP_CS_2_TYPE_DP_OUT {
+        return AdapterType::DisplayPortOut;
+    }
+    if code == ADP_CS_2_TYPE_PCIE_DOWN {
+        return AdapterType::PcieDown;
+    }
+    if code == ADP_CS_2_TYPE_PCIE_UP {
+        return AdapterType::PcieUp;
+    }
+    if code == ADP_CS_2_TYPE_USB3_DOWN {
+        return AdapterType::Usb3Down;
+    }
+    if code == ADP_CS_2_TYPE_USB3_UP {
+        return AdapterType::Usb3Up;
+    }
+    if code == ADP_CS_2_TYPE_USB3_GENT_DOWN {
+        return AdapterType::Usb3GenTDown;
+    }
+    if code == ADP_CS_2_TYPE_USB3_GENT_UP {
+        return AdapterType::Usb3GenTUp;
+    }
+    AdapterType::Unknown
+}
+
+// The state of a lane adapter by its code.
+pub fn lane_state(code: u32) -> State
+    ensures { λ r. ⌜ r ≡ laneStateOf code ⌝ }
+{
+    if code == LANE_ADP_CS_1_ADAPTER_STATE_DISABLED {
+        return State::Disabled;
+    }
+    if code == LANE_ADP_CS_1_ADAPTER_STATE_TRAINING {
+        return State::Training;
+    }
+    if code == LANE_ADP_CS_1_ADAPTER_STATE_CL0 {
+        return State::Cl0;
+    }
+    if code == LANE_ADP_CS_1_ADAPTER_STATE_CL0S_TX {
+        return State::Cl0sTx;
+    }
+    if code == LANE_ADP_CS_1_ADAPTER_STATE_CL0S_RX {
+        return State::Cl0sRx;
+    }
+    if code == LANE_ADP_CS_1_ADAPTER_STATE_CL1 {
+        return State::Cl1;
+    }
+    if code == LANE_ADP_CS_1_ADAPTER_STATE_CL2 {
+        return State::Cl2;
+    }
+    if code == LANE_ADP_CS_1_ADAPTER_STATE_CLD {
+        return State::Cld;
+    }
+    State::Unknown
+}
+
+// The link speed by its code.
+pub fn link_speed(code: u32) -> Speed
+    ensures { λ r. ⌜ r ≡ speedOf code ⌝ }
+{
+    if code == LANE_ADP_CS_1_CURRENT_SPEED_GEN2 {
+        return Speed::Gen2;
+    }
+    if code == LANE_ADP_CS_1_CURRENT_SPEED_GEN3 {
+        return Speed::Gen3;
+    }
+    if code == LANE_ADP_CS_1_CURRENT_SPEED_GEN4 {
+        return Speed::Gen4;
+    }
+    Speed::Unknown
+}
+
+// The device kind of a number; Unknown from 5 on.
+pub fn device_kind(number: u32) -> Kind
+    ensures { λ r. ⌜ r ≡ kindOf number ⌝ }
+{
+    if number == 0 {
+        return Kind::Domain;
+    }
+    if number == 1 {
+        return Kind::Router;
+    }
+    if number == 2 {
+        return Kind::Xdomain;
+    }
+    if number == 3 {
+        return Kind::Retimer;
+    }
+    if number == 4 {
+        return Kind::Service;
+    }
+    Kind::Unknown
+}
+
+pub fn type_number(a: AdapterType) -> u32
+    ensures { λ r. ⌜ r ≡ typeNumber a ⌝ }
+{
+    match a {
+        AdapterType::Unknown => 0,
+        AdapterType::Inactive => 1,
+        AdapterType::Lane => 2,
+        AdapterType::HostInterface => 3,
+        AdapterType::DisplayPortIn => 4,
+        AdapterType::DisplayPortOut => 5,
+        AdapterType::PcieDown => 6,
+        AdapterType::PcieUp => 7,
+        AdapterType::Usb3Down => 8,
+        AdapterType::Usb3Up => 9,
+        AdapterType::Usb3GenTDown => 10,
+        AdapterType::Usb3GenTUp => 11,
+    }
+}
+
+pub fn state_number(s: State) -> u32
+    ensures { λ r. ⌜ r ≡ stateNumber s ⌝ }
+{
+    match s {
+        State::Unknown => 0,
+        State::Disabled => 1,
+        State::Enabled => 2,
+        State::Training => 3,
+        State::Cl0 => 4,
+        State::Cl0sTx => 5,
+        State::Cl0sRx => 6,
+        State::Cl1 => 7,
+        State::Cl2 => 8,
+        State::Cld => 9,
+    }
+}
+
+pub fn speed_number(s: Speed) -> u32
+    ensures { λ r. ⌜ r ≡ speedNumber s ⌝ }
+{
+    match s {
+        Speed::Unknown => 0,
+        Speed::Gen2 => 1,
+        Speed::Gen3 => 2,
+        Speed::Gen4 => 3,
+    }
+}
+
+pub fn kind_number(k: Kind) -> u32
+    ensures { λ r. ⌜ r ≡ kindNumber k ⌝ }
+{
+    match k {
+        Kind::Domain => 0,
+        Kind::Router => 1,
+        Kind::Xdomain => 2,
+        Kind::Retimer => 3,
+        Kind::Service => 4,
+        Kind::Unknown => 5,
+    }
+}
+
+pub fn tunnel_number(t: TunnelType) -> u32
+    ensures { λ r. ⌜ r ≡ tunnelNumber t ⌝ }
+{
+    match t {
+        TunnelType::Usb3 => 0,
+        TunnelType::DisplayPort => 1,
+        TunnelType::Pcie => 2,
+        TunnelType::Dma => 3,
+    }
+}
