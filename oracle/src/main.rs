@@ -1120,14 +1120,15 @@ fn dump() {
 // One case a line, its bytes in hex (`-` for none), so that a case may hold any byte, LF too.
 // The answer to each is a line of words, each a blank and eight hex digits.
 
-fn unhex(s: &str) -> Option<Vec<u8>> {
-    if s == "-" {
+fn unhex(s: &[u8]) -> Option<Vec<u8>> {
+    if s == b"-" {
         return Some(Vec::new());
     }
-    if s.is_empty() || s.len() % 2 != 0 || !s.bytes().all(|b| b.is_ascii_hexdigit()) {
+    if s.is_empty() || s.len() % 2 != 0 {
         return None;
     }
-    (0..s.len()).step_by(2).map(|i| u8::from_str_radix(&s[i..i + 2], 16).ok()).collect()
+    let digit = |b: u8| (b as char).to_digit(16);
+    s.chunks(2).map(|p| Some((digit(p[0])? * 16 + digit(p[1])?) as u8)).collect()
 }
 
 fn number_words(v: Option<u64>) -> Vec<u32> {
@@ -1169,11 +1170,12 @@ fn batch_answer(kind: &str, case: &str, tree: &Tree) -> Vec<u32> {
 }
 
 fn batch(kind: &str) {
-    let cases = lines();
+    let data = stdin_bytes();
     let tree = Tree::new();
     let mut out = String::new();
-    for (i, l) in cases.iter().enumerate() {
+    for (i, l) in data.split_inclusive(|b| *b == b'\n').enumerate() {
         let bad = |why: &str| -> ! { driver_error(&format!("case {}: {why}", i + 1)) };
+        let l = l.strip_suffix(b"\n").unwrap_or(l);
         let Some(bytes) = unhex(l) else { bad("no hex pairs") };
         // The Rust takes any UTF-8; document 01 refuses a byte above 127, so the Rust isn't asked.
         let case = match std::str::from_utf8(&bytes) {

@@ -1,7 +1,7 @@
 -- Laws on places, pieces, tokens and lines. Assumes nothing.
 use Prim.Native.Nat.{ℕ, zero, suc, _+_, _-_, _<_, _≤_}
 use native.Mathlib.Omega.{arith}
-use native.Mathlib.Nat.{eq-or-lt-of-le}
+use native.Mathlib.Nat.{add-zero, eq-or-lt-of-le}
 use native.Mathlib.Numerals.{add-one}
 use mathlib.Core.Path.{_≡_, refl, _∙_, ap, sym}
 use mathlib.Core.Bool.{Bool, true, false, cond, not}
@@ -12,7 +12,8 @@ use lib.Seq.{drop-cons, getD-drop, take-all, drop-drop, length-take-le, take-nil
 use lib.Dec.{eqb}
 use native.Mathlib.Decide.{decLt}
 use borrow.Author.Tests.{ne-eqb, not-true}
-use Rattle.scan.specs.Scan.{isSpace, isLineFeed, isNot, before, placeFrom, onFirst, pieces, filled, tokens, ended, lines}
+use Rattle.scan.specs.Scan.{isSpace, isLineFeed, isNot, before, placeFrom, TokenAt, onFirst, pieces, filled, tokens, ended, lines}
+use Rattle.scan.specs.declared.Span.{Span}
 
 module _ (p : ℕ → Bool) (s : List ℕ) (i : ℕ) where
   -- the byte at i is the first
@@ -226,3 +227,47 @@ module _ (s : List ℕ) (at st en : ℕ) (starts : st ≡ placeFrom (isNot isSpa
       go (yes h) = sym (ap (λ l. drop 1 l) (token-there h))
       go (no h) = let a = place-above isSpace s st in
           rw (token-missing (omega arith), drop-of-length-le s {i = en} (omega (arith, ends))) tokens-none
+
+-- token k of a text stands from st up to en; it is empty where there are not so many
+pub record Nth (s : List ℕ) (k st en : ℕ) : Type 0 where
+  pub ordered : st ≤ en
+  pub within : en ≤ length s
+  pub text : take (en - st) (drop st s) ≡ getD (tokens s) k []
+  pub next : tokens (drop en s) ≡ drop (suc k) (tokens s)
+  pub there : st < length s → k < length (tokens s)
+  pub missing : length s ≤ st → length (tokens s) ≤ k
+
+module _ (s : List ℕ) (k at st en : ℕ) (starts : st ≡ placeFrom (isNot isSpace) s at) (ends : en ≡ placeFrom isSpace s st) (inside : at ≤ length s) (here : tokens (drop at s) ≡ drop k (tokens s)) where
+  start-in : st ≤ length s
+  start-in = rw starts (place-within (isNot isSpace) s at inside)
+
+  nth : Nth s k st en
+  nth = record {
+      ordered = rw ends (place-above isSpace s st);
+      within = rw ends (place-within isSpace s st start-in);
+      text = token-text s at st en starts ends ∙ ap (λ l. getD l 0 []) here ∙ getD-drop k (tokens s) 0 [] ∙ ap (λ n. getD (tokens s) n []) (add-zero k);
+      next = token-next s at st en starts ends ∙ ap (λ l. drop 1 l) here ∙ drop-drop 1 k (tokens s) ∙ ap (λ n. drop n (tokens s)) (add-one k);
+      there = λ h. omega (arith, ap length (token-there s at st en starts ends h), ap length here, length-drop k (tokens s));
+      missing = λ h. omega (arith, ap length (token-missing s at st en starts ends h), ap length here, length-drop k (tokens s)) }
+
+pub nth-first : (s : List ℕ) (t : Span) → TokenAt s 0 t → Nth s 0 (t .start) (t .end)
+nth-first s t h = nth s 0 0 (t .start) (t .end) (h .0) (h .1) (omega arith) refl
+
+pub nth-next : {s : List ℕ} {k st en : ℕ} → Nth s k st en → (t : Span) → TokenAt s en t → Nth s (suc k) (t .start) (t .end)
+nth-next {s} {k} {st} {en} n t h = nth s (suc k) en (t .start) (t .end) (h .0) (h .1) (n .within) (n .next)
+
+-- each token takes a byte
+token-bytes : (p : ℕ → Bool) (s : List ℕ) → length (filled (pieces p s)) ≤ length s
+unfolding pieces onFirst filled
+token-bytes p [] = omega arith
+token-bytes p (b ∷ s) = step (p b) (pieces p s) (token-bytes p s)
+  where
+    step : (t : Bool) (ps : List (List ℕ)) → length (filled ps) ≤ length s → length (filled (cond t ([] ∷ ps) (onFirst b ps))) ≤ suc (length s)
+    step true ps h = omega arith
+    step false [] h = omega arith
+    step false ([] ∷ ps) h = omega arith
+    step false ((c ∷ t) ∷ ps) h = omega arith
+
+pub tokens-le : (s : List ℕ) → length (tokens s) ≤ length s
+unfolding tokens
+tokens-le s = token-bytes isSpace s

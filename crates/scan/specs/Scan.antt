@@ -4,6 +4,8 @@ use mathlib.Core.Bool.{Bool, cond, not, _||_}
 use mathlib.Core.List.{List, [], _∷_}
 use lib.Dec.{eqb, ltb}
 use lib.ListN.{drop}
+use mathlib.Core.Path.{_≡_}
+use Rattle.scan.specs.declared.Span.{Span}
 
 -- tab, LF, FF, CR, space
 unfoldable pub isSpace : ℕ → Bool
@@ -26,6 +28,10 @@ before p (b ∷ s) = cond (p b) 0 (suc (before p s))
 -- the first place from i on that holds a byte of p, or the end
 unfoldable pub placeFrom : (ℕ → Bool) → List ℕ → ℕ → ℕ
 placeFrom p s i = i + before p (drop i s)
+
+-- t is the first token from i on: from the first byte that is no separator up to the next separator; empty at the end where there is none
+abbrev pub TokenAt : List ℕ → ℕ → Span → Type 0
+TokenAt s i t = (t .start ≡ placeFrom (isNot isSpace) s i) × (t .end ≡ placeFrom isSpace s (t .start))
 
 -- a byte before the first of the pieces
 unfoldable pub onFirst : ℕ → List (List ℕ) → List (List ℕ)

@@ -1,7 +1,5 @@
 ghost use mathlib.Core.Path.{_≡_};
-ghost use Prim.Native.Nat.{_+_};
-ghost use mathlib.Core.Bool.{not};
-ghost use Rattle.scan.specs.Scan.{isSpace, isNot, isLineFeed, isHigh, placeFrom};
+ghost use Rattle.scan.specs.Scan.{isSpace, isNot, isLineFeed, isHigh, placeFrom, TokenAt};
 
 // A part of a text, from `start` up to `end`; empty where there is none.
 pub struct Span {
@@ -58,7 +56,7 @@ fn token_start(s: &[u8], at: usize) -> usize
 
 // The first token from `at` on; empty where there is none.
 pub fn token(s: &[u8], at: usize) -> Span
-    ensures { λ r. ⌜ (r .start ≡ placeFrom (isNot isSpace) (now (s .entry)) at) × (r .end ≡ placeFrom isSpace (now (s .entry)) (r .start)) ⌝ }
+    ensures { λ r. ⌜ TokenAt (now (s .entry)) at r ⌝ }
 {
     let start = token_start(s, at);
     Span { start, end: token_end(s, start) }

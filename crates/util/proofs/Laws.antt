@@ -4,15 +4,15 @@ use native.Mathlib.Omega.{arith}
 use native.Mathlib.Nat.{le-mul-of-pos-right, le-div-iff-mul-le, div-lt-iff-lt-mul, mod-one, zero-mod, div-eq-of-lt, lt-of-lt-of-le}
 use native.Mathlib.Numerals.{add-one}
 use mathlib.Core.Path.{_≡_, refl, _∙_, ap, sym, subst}
-use mathlib.Core.Bool.{Bool, true, false, cond, _&&_}
+use mathlib.Core.Bool.{Bool, true, false, cond, _&&_, false≢true}
 use mathlib.Core.List.{List, [], _∷_}
 use lib.Dec.{leb, ltb, eqb}
 use lib.ListN.{length, getD, drop, drop-of-length-le}
 use lib.Pow.{pow-mono, shr-mod}
 use lib.Seq.{drop-cons}
-use borrow.Author.Tests.{le-ltb, lt-ltb, le-leb, lt-leb}
+use borrow.Author.Tests.{le-ltb, lt-ltb, le-leb, lt-leb, leb-true}
 use Rattle.util.specs.Bits.{bitsOf}
-use Rattle.util.specs.Number.{digitOf, valueOf, allDigits, numberOf}
+use Rattle.util.specs.Number.{digitOf, afterPrefix, afterPlus, valueOf, allDigits, numberOf, hexNumber, decimalNumber}
 use Rattle.util.specs.declared.Number.{Number}
 use Rattle.util.specs.declared.Number.the-variants.{Value, None}
 
@@ -77,3 +77,25 @@ module _ (w l h : ℕ) where
   pub bits-past : w < 2 ^ 32 → 31 < l → bitsOf w l h ≡ 0
   unfolding bitsOf
   bits-past b p = ap (λ n. n % 2 ^ (h + 1 - l)) (div-eq-of-lt (lt-of-lt-of-le b (pow-mono {i = 32} {j = l} (omega arith)))) ∙ zero-mod (2 ^ (h + 1 - l))
+
+-- a number that was read is at most max
+and-right : (a b : Bool) → a && b ≡ true → b ≡ true
+and-right true b e = e
+and-right false b e = absurd (false≢true e)
+
+number-le : (base max : ℕ) (s : List ℕ) (v : ℕ) → numberOf base max s ≡ Value v → v ≤ max
+unfolding numberOf
+number-le base max s v = step (ltb 0 (length s) && allDigits base s && leb (valueOf base 0 s) max) refl
+  where
+    step : (t : Bool) → ltb 0 (length s) && allDigits base s && leb (valueOf base 0 s) max ≡ t → cond t (Value (valueOf base 0 s)) None ≡ Value v → v ≤ max
+    step true h e = let q : valueOf base 0 s ≡ v = cc in
+        omega (arith, leb-true (valueOf base 0 s) max (and-right (ltb 0 (length s) && allDigits base s) _ h))
+    step false h e = absurd (let z : _≡_ {A = ℕ} 0 1 = cc in omega arith)
+
+pub hex-le : (max : ℕ) (s : List ℕ) (v : ℕ) → hexNumber max s ≡ Value v → v ≤ max
+unfolding hexNumber
+hex-le max s v = number-le 16 max (afterPlus (afterPrefix s)) v
+
+pub decimal-le : (max : ℕ) (s : List ℕ) (v : ℕ) → decimalNumber max s ≡ Value v → v ≤ max
+unfolding decimalNumber
+decimal-le max s v = number-le 10 max (afterPlus s) v

@@ -1,0 +1,4 @@
+pub mod Sorting
+pub mod Groups
+pub mod Lines
+pub mod Reading

@@ -1,0 +1,108 @@
+use mathlib.Core.Path.{_≡_, refl, sym, _∙_}
+use denote.Ref.{now}
+use Rattle.util.specs.Number.{hexNumber, decimalNumber}
+use Rattle.util.specs.declared.Number.the-variants.{Value, None}
+use Rattle.util.proofs.Laws.{hex-le, decimal-le}
+use native.Mathlib.Omega.{arith}
+use Rattle.register.specs.Line.{fourTokens, token, registerOf}
+use borrow.Author.Needs.{needs}
+use Rattle.register.proofs.four_tokens.Statement.{statement}
+use Rattle.register.proofs.four_tokens.Tie as tie
+use Rattle.register.proofs.four_tokens.Reads as reads
+use Rattle.register.proofs.four_tokens.Lts as lts
+use Rattle.util.proofs.parse_decimal.Reads as parse-decimal-reads
+use Rattle.util.proofs.parse_hex.Reads as parse-hex-reads
+
+-- src/lib.rt:74:33
+parse-hex-requires : tie.Need-parse-hex-requires
+parse-hex-requires c κs = search needs
+
+-- src/lib.rt:74:23
+enum-known-offset : tie.Need-enum-known-offset
+enum-known-offset c = search needs
+
+-- src/lib.rt:75:29
+enum-told : tie.Need-enum-told
+enum-told c = search needs
+
+-- src/lib.rt:75:9
+returns : tie.Need-returns
+unfolding fourTokens token
+returns c = let e : hexNumber 0xffff (now (c .before .before .before .before .before .before .args .a)) ≡ None = cc in simp e
+
+-- src/lib.rt:77:35
+parse-decimal-requires : tie.Need-parse-decimal-requires
+parse-decimal-requires c κs = search needs
+
+-- src/lib.rt:77:23
+enum-known-relative : tie.Need-enum-known-relative
+enum-known-relative c = search needs
+
+-- src/lib.rt:78:29
+enum-told-2 : tie.Need-enum-told-2
+enum-told-2 c = search needs
+
+-- src/lib.rt:78:9
+returns-2 : tie.Need-returns-2
+unfolding fourTokens token
+returns-2 c = let e : hexNumber 0xffff (now (c .before .before .before .before .before .before .before .before .before .before .args .a)) ≡ Value (c .before .before .before .before .offset .given .0 .0) = cc in
+    let f : decimalNumber 0xffff (now (c .before .before .before .before .before .before .before .before .before .before .args .b)) ≡ None = cc in simp (e, f)
+
+-- src/lib.rt:80:32
+parse-hex-requires-2 : tie.Need-parse-hex-requires-2
+parse-hex-requires-2 c κs = search needs
+
+-- src/lib.rt:80:23
+enum-known-value : tie.Need-enum-known-value
+enum-known-value c = search needs
+
+-- src/lib.rt:81:29
+enum-told-3 : tie.Need-enum-told-3
+enum-told-3 c = search needs
+
+-- src/lib.rt:81:9
+returns-3 : tie.Need-returns-3
+unfolding fourTokens token
+returns-3 c = let e : hexNumber 0xffff (now (c .before .before .before .before .before .before .before .before .before .before .before .before .before .before .args .a)) ≡ Value (c .before .before .before .before .before .before .before .before .offset .given .0 .0) = cc in
+    let f : decimalNumber 0xffff (now (c .before .before .before .before .before .before .before .before .before .before .before .before .before .before .args .b)) ≡ Value (c .before .before .before .before .relative .given .0 .0) = cc in
+    let g : hexNumber 0xffffffff (now (c .before .before .before .before .before .before .before .before .before .before .before .before .before .before .args .d)) ≡ None = cc in simp (e, f, g)
+
+-- src/lib.rt:84:17
+cast-t13 : tie.Need-cast-t13
+cast-t13 c = let e : hexNumber 0xffff (now (c .before .before .before .before .before .before .before .before .before .before .before .before .before .before .before .args .a)) ≡ Value (c .before .before .before .before .before .before .before .before .before .offset .given .0 .0) = cc in omega (arith, hex-le 0xffff (now (c .before .before .before .before .before .before .before .before .before .before .before .before .before .before .before .args .a)) (c .before .before .before .before .before .before .before .before .before .offset .given .0 .0) e)
+
+-- src/lib.rt:85:26
+cast-t14 : tie.Need-cast-t14
+cast-t14 c = let e : decimalNumber 0xffff (now (c .before .before .before .before .before .before .before .before .before .before .before .before .before .before .before .args .b)) ≡ Value (c .before .before .before .before .before .relative .given .0 .0) = cc in omega (arith, decimal-le 0xffff (now (c .before .before .before .before .before .before .before .before .before .before .before .before .before .before .before .args .b)) (c .before .before .before .before .before .relative .given .0 .0) e)
+
+-- src/lib.rt:88:16
+cast-t15 : tie.Need-cast-t15
+cast-t15 c = let e : hexNumber 0xffffffff (now (c .before .before .before .before .before .before .before .before .before .before .before .before .before .before .before .args .d)) ≡ Value (c .before .value .given .0 .0) = cc in omega (arith, hex-le 0xffffffff (now (c .before .before .before .before .before .before .before .before .before .before .before .before .before .before .before .args .d)) (c .before .value .given .0 .0) e)
+
+-- src/lib.rt:71:1
+returns-4 : tie.Need-returns-4
+unfolding fourTokens token registerOf
+returns-4 c = let e : hexNumber 0xffff (now (c .before .before .before .before .before .before .before .before .before .before .before .before .before .before .before .args .a)) ≡ Value (c .before .before .before .before .before .before .before .before .before .offset .given .0 .0) = cc in
+    let f : decimalNumber 0xffff (now (c .before .before .before .before .before .before .before .before .before .before .before .before .before .before .before .args .b)) ≡ Value (c .before .before .before .before .before .relative .given .0 .0) = cc in
+    let g : hexNumber 0xffffffff (now (c .before .before .before .before .before .before .before .before .before .before .before .before .before .before .before .args .d)) ≡ Value (c .before .value .given .0 .0) = cc in simp (e, f, g)
+
+pub four-tokens-spec : {M : Type 1} → statement M
+four-tokens-spec =
+    tie.close
+    (tie.spec
+    parse-hex-requires
+    enum-known-offset
+    enum-told
+    returns
+    parse-decimal-requires
+    enum-known-relative
+    enum-told-2
+    returns-2
+    parse-hex-requires-2
+    enum-known-value
+    enum-told-3
+    returns-3
+    cast-t13
+    cast-t14
+    cast-t15
+    returns-4)

@@ -1,0 +1,127 @@
+use Rattle.scan.proofs.Laws.{nth-first, nth-next, Nth}
+use Rattle.register.proofs.Lines.{is-comment, is-few, is-four, is-five, spans}
+use Prim.Native.Nat.{_<_, _≤_, _-_}
+use mathlib.Core.Path.{_≡_, refl, sym, _∙_, ap}
+use mathlib.Core.Bool.{false, true}
+use mathlib.Core.List.{[]}
+use denote.Ref.{now}
+use native.Mathlib.Omega.{arith}
+use lib.ListN.{length, take, drop, getD}
+use Rattle.scan.specs.Scan.{tokens}
+use Rattle.register.specs.Line.{meaning, isComment, fourTokens, fiveTokens}
+use borrow.Author.Needs.{needs}
+use Rattle.register.proofs.read_line.Statement.{statement}
+use Rattle.register.proofs.read_line.Tie as tie
+use Rattle.register.proofs.read_line.Reads as reads
+use Rattle.register.proofs.read_line.Lts as lts
+use Rattle.register.proofs.five_tokens.Reads as five-tokens-reads
+use Rattle.register.proofs.four_tokens.Reads as four-tokens-reads
+use Rattle.register.proofs.is_comment.Reads as is-comment-reads
+use Rattle.register.proofs.part.Reads as part-reads
+use Rattle.scan.proofs.token.Reads as token-reads
+
+-- src/lib.rt:134:8
+is-comment-requires : tie.Need-is-comment-requires
+is-comment-requires c κs = search needs
+
+-- src/lib.rt:135:9
+returns : tie.Need-returns
+returns c = sym (is-comment _ (sym (c .before .is-comment .ensures) ∙ c .if1 .taken))
+
+-- src/lib.rt:137:9
+token-requires : tie.Need-token-requires
+token-requires c κs = search needs
+
+-- src/lib.rt:138:9
+token-requires-2 : tie.Need-token-requires-2
+token-requires-2 c κs = search needs
+
+-- src/lib.rt:139:9
+token-requires-3 : tie.Need-token-requires-3
+token-requires-3 c κs = search needs
+
+-- src/lib.rt:140:9
+token-requires-4 : tie.Need-token-requires-4
+token-requires-4 c κs = search needs
+
+-- src/lib.rt:142:9
+returns-2 : tie.Need-returns-2
+returns-2 c = let n = spans (now (c .before .before .before .before .before .before .before .before .before .args .s)) _ _ _ _ (c .before .before .before .before .before .token .ensures) (c .before .before .before .before .token2 .ensures) (c .before .before .before .token3 .ensures) (c .before .before .token4 .ensures) in
+    sym (is-few (now (c .before .before .before .before .before .before .before .before .before .args .s)) (sym (c .before .before .before .before .before .before .before .is-comment .ensures) ∙ c .before .before .before .before .before .before .if1 .left) (omega (arith, n .n3 .missing (c .if2 .taken))))
+
+-- src/lib.rt:144:9
+token-requires-5 : tie.Need-token-requires-5
+token-requires-5 c κs = search needs
+
+-- src/lib.rt:145:9
+part-requires : tie.Need-part-requires
+part-requires c κs = let n = spans (now (c .before .before .before .before .before .before .before .before .before .before .args .s)) _ _ _ _ (c .before .before .before .before .before .before .token .ensures) (c .before .before .before .before .before .token2 .ensures) (c .before .before .before .before .token3 .ensures) (c .before .before .before .token4 .ensures) .n0 in (n .ordered, n .within)
+
+-- src/lib.rt:146:9
+part-requires-2 : tie.Need-part-requires-2
+part-requires-2 c κs = let n = spans (now (c .before .before .before .before .before .before .before .before .before .before .before .args .s)) _ _ _ _ (c .before .before .before .before .before .before .before .token .ensures) (c .before .before .before .before .before .before .token2 .ensures) (c .before .before .before .before .before .token3 .ensures) (c .before .before .before .before .token4 .ensures) .n1 in (n .ordered, n .within)
+
+-- src/lib.rt:147:9
+part-requires-3 : tie.Need-part-requires-3
+part-requires-3 c κs = let n = spans (now (c .before .before .before .before .before .before .before .before .before .before .before .before .args .s)) _ _ _ _ (c .before .before .before .before .before .before .before .before .token .ensures) (c .before .before .before .before .before .before .before .token2 .ensures) (c .before .before .before .before .before .before .token3 .ensures) (c .before .before .before .before .before .token4 .ensures) .n3 in (n .ordered, n .within)
+
+-- src/lib.rt:149:9
+four-tokens-requires : tie.Need-four-tokens-requires
+four-tokens-requires c κs = search needs
+
+-- src/lib.rt:149:9
+returns-3 : tie.Need-returns-3
+returns-3 c = let s = now (c .before .before .before .before .before .before .before .before .before .before .before .before .before .before .before .before .args .s) in
+    let n = spans (now (c .before .before .before .before .before .before .before .before .before .before .before .before .before .before .before .before .args .s)) _ _ _ _ (c .before .before .before .before .before .before .before .before .before .before .before .before .token .ensures) (c .before .before .before .before .before .before .before .before .before .before .before .token2 .ensures) (c .before .before .before .before .before .before .before .before .before .before .token3 .ensures) (c .before .before .before .before .before .before .before .before .before .token4 .ensures) in
+    let n4 = nth-next (n .n3) _ (c .before .before .before .before .before .before .token5 .ensures) in
+    let l : length (tokens s) ≡ 4 = omega (arith, n .n3 .there (c .before .before .before .before .before .before .before .if2 .left), n4 .missing (c .before .if3 .taken)) in
+    let ta = c .before .before .before .before .before .part .ensures ∙ n .n0 .text in
+    let tb = c .before .before .before .before .part2 .ensures ∙ n .n1 .text in
+    let td = c .before .before .before .part3 .ensures ∙ n .n3 .text in
+    cc (c .four-tokens .ensures, ta, tb, td, is-four s (sym (c .before .before .before .before .before .before .before .before .before .before .before .before .before .before .is-comment .ensures) ∙ c .before .before .before .before .before .before .before .before .before .before .before .before .before .if1 .left) l)
+
+-- src/lib.rt:151:25
+part-requires-4 : tie.Need-part-requires-4
+part-requires-4 c κs = let n = spans (now (c .before .before .before .before .before .before .before .before .before .before .before .before .before .before .before .args .s)) _ _ _ _ (c .before .before .before .before .before .before .before .before .before .before .before .token .ensures) (c .before .before .before .before .before .before .before .before .before .before .token2 .ensures) (c .before .before .before .before .before .before .before .before .before .token3 .ensures) (c .before .before .before .before .before .before .before .before .token4 .ensures) .n2 in (n .ordered, n .within)
+
+-- src/lib.rt:151:41
+part-requires-5 : tie.Need-part-requires-5
+part-requires-5 c κs = let n = nth-next (spans (now (c .before .before .before .before .before .before .before .before .before .before .before .before .before .before .before .before .args .s)) _ _ _ _ (c .before .before .before .before .before .before .before .before .before .before .before .before .token .ensures) (c .before .before .before .before .before .before .before .before .before .before .before .token2 .ensures) (c .before .before .before .before .before .before .before .before .before .before .token3 .ensures) (c .before .before .before .before .before .before .before .before .before .token4 .ensures) .n3) _ (c .before .before .before .before .before .before .token5 .ensures) in (n .ordered, n .within)
+
+-- src/lib.rt:151:5
+five-tokens-requires : tie.Need-five-tokens-requires
+five-tokens-requires c κs = search needs
+
+-- src/lib.rt:131:1
+returns-4 : tie.Need-returns-4
+returns-4 c = let s = now (c .before .before .before .before .before .before .before .before .before .before .before .before .before .before .before .before .before .before .args .s) in
+    let n = spans (now (c .before .before .before .before .before .before .before .before .before .before .before .before .before .before .before .before .before .before .args .s)) _ _ _ _ (c .before .before .before .before .before .before .before .before .before .before .before .before .before .before .token .ensures) (c .before .before .before .before .before .before .before .before .before .before .before .before .before .token2 .ensures) (c .before .before .before .before .before .before .before .before .before .before .before .before .token3 .ensures) (c .before .before .before .before .before .before .before .before .before .before .before .token4 .ensures) in
+    let n4 = nth-next (n .n3) _ (c .before .before .before .before .before .before .before .before .token5 .ensures) in
+    let ta = c .before .before .before .before .before .before .before .part .ensures ∙ n .n0 .text in
+    let tb = c .before .before .before .before .before .before .part2 .ensures ∙ n .n1 .text in
+    let tc = c .before .before .part4 .ensures ∙ n .n2 .text in
+    let td = c .before .before .before .before .before .part3 .ensures ∙ n .n3 .text in
+    let te = c .before .part5 .ensures ∙ n4 .text in
+    cc (c .five-tokens .ensures, ta, tb, tc, td, te, is-five s (sym (c .before .before .before .before .before .before .before .before .before .before .before .before .before .before .before .before .is-comment .ensures) ∙ c .before .before .before .before .before .before .before .before .before .before .before .before .before .before .before .if1 .left) (n4 .there (c .before .before .before .if3 .left)))
+
+pub read-line-spec : {M : Type 1} → statement M
+read-line-spec =
+    tie.close
+    (tie.spec
+    is-comment-requires
+    returns
+    token-requires
+    token-requires-2
+    token-requires-3
+    token-requires-4
+    returns-2
+    token-requires-5
+    part-requires
+    part-requires-2
+    part-requires-3
+    four-tokens-requires
+    returns-3
+    part-requires-4
+    part-requires-5
+    five-tokens-requires
+    returns-4)

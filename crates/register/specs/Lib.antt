@@ -1,0 +1,4 @@
+pub mod Dump
+pub mod Group
+pub mod Line
+pub mod Sort
