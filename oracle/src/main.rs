@@ -11,7 +11,7 @@ use std::path::{Path, PathBuf};
 use std::sync::Mutex;
 use std::sync::atomic::{AtomicUsize, Ordering::SeqCst};
 
-use tbtools::debugfs::{self, Adapter, Name, Register, Speed, State, Type};
+use tbtools::debugfs::{self, Adapter, BitFields, Metadata, Name, Register, Speed, State, Type};
 use tbtools::tunnel::{self, Tunnel};
 use tbtools::{Device, Kind, Version, util};
 
@@ -1033,6 +1033,62 @@ fn names() {
     finish(&out)
 }
 
+const TYPES: [Type; 12] = [
+    Type::Unknown,
+    Type::Inactive,
+    Type::Lane,
+    Type::HostInterface,
+    Type::DisplayPortIn,
+    Type::DisplayPortOut,
+    Type::PcieDown,
+    Type::PcieUp,
+    Type::Usb3Down,
+    Type::Usb3Up,
+    Type::Usb3GenTDown,
+    Type::Usb3GenTUp,
+];
+
+/// A register named as `read_registers` and `read_paths` do it: the candidates, then `set_metadata`.
+fn named(space: u32, kind: Type, relative: u16, cap: u16, vs: u16, value: u32) -> Register {
+    let line = format!("0 {relative} {cap:x} {vs:x} {value:x}");
+    let mut r = Register::parse_debugfs(&line).unwrap();
+    let candidates = match space {
+        0 => Metadata::with_router_offset(relative),
+        1 => Metadata::with_adapter_type_and_offset("adapter", kind, relative),
+        2 => Metadata::with_adapter_type_and_offset("path", kind, relative),
+        _ => driver_error("a space is 0, 1 or 2"),
+    };
+    if let Some(candidates) = candidates {
+        r.set_metadata(candidates);
+    }
+    r
+}
+
+/// Lines `SPACE KIND RELATIVE CAP VS VALUE NAME`, numbers in decimal, the wanted name as hex pairs.
+/// The answer: the register's name as hex pairs or `-`; whether the wanted name is that name; the
+/// value of the field and of the flag of the wanted name, each a number or `panic`.
+fn fields() {
+    each_line(|l| {
+        let t: Vec<&str> = l.split(' ').collect();
+        let [space, kind, relative, cap, vs, value, wanted] = t[..] else { driver_error("no question") };
+        let n = |s: &str| s.parse::<u32>().unwrap_or_else(|_| driver_error("no number"));
+        let wanted = unhex(wanted.as_bytes()).and_then(|b| String::from_utf8(b).ok());
+        let Some(wanted) = wanted else { driver_error("no name") };
+        let kind = TYPES[n(kind) as usize];
+        let r = named(n(space), kind, n(relative) as u16, n(cap) as u16, n(vs) as u16, n(value));
+        let name = r.name().map_or(String::from("-"), |s| s.bytes().map(|b| format!("{b:02x}")).collect());
+        let is = r.name().is_some_and(|n| n.to_lowercase() == wanted.to_lowercase());
+        let shown = |v: Result<u32, Panic>| match v {
+            Ok(v) => v.to_string(),
+            Err(p) if refusal_of(&p) == 6 => String::from("panic"),
+            Err(p) => driver_error(&format!("{} ({})", p.msg, p.at)),
+        };
+        let field = shown(run(|| r.field(&wanted)));
+        let flag = shown(run(|| r.flag(&wanted) as u32));
+        format!("{name} {} {field} {flag}", is as u32)
+    })
+}
+
 fn parent() {
     let devices = loaded();
     let mut out = String::new();
@@ -1225,6 +1281,7 @@ fn main() {
         ["hex64"] => each_line(|l| none(util::parse_hex::<u64>(l))),
         ["adapters"] => adapters(),
         ["names"] => names(),
+        ["fields"] => fields(),
         ["walk", place, adapter, hop] => walk(place, adapter, hop, false),
         ["walkwords", place, adapter, hop] => walk(place, adapter, hop, true),
         ["discover", place, adapter] => discover(place, adapter, false),

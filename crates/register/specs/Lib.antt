@@ -1,4 +1,1 @@
-pub mod Dump
-pub mod Group
 pub mod Line
-pub mod Sort

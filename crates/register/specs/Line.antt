@@ -11,7 +11,6 @@ use Rattle.util.specs.declared.Number.{Number}
 use Rattle.util.specs.declared.Number.the-variants as number
 use Rattle.scan.specs.Scan.{tokens, isHigh, placeFrom}
 use Rattle.register.specs.declared.Register.{Register}
-use Rattle.register.specs.declared.Skip.{Skip}
 use Rattle.register.specs.declared.Skip.the-variants.{Comment, Few, Bad}
 use Rattle.register.specs.declared.Met.{Met}
 use Rattle.register.specs.declared.Met.the-variants as met

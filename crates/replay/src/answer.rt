@@ -1,7 +1,7 @@
 // The answers of the Rust: whether a call's answer is what the words from `at` on say.
 use crate::case::after;
 use crate::case::ends;
-use register::Dump;
+use dump::Dump;
 use register::Line;
 use register::Register;
 use util::Number;
@@ -48,7 +48,7 @@ pub fn dump_agrees(
     scratch: &mut [u32],
     output: &mut [u32],
 ) -> bool {
-    let answer = register::read(input, scratch, output);
+    let answer = dump::read(input, scratch, output);
     match answer {
         Dump::Records(n) => {
             if output.len() / 4 < n {

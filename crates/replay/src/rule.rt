@@ -9,7 +9,7 @@ use crate::case::ends;
 use crate::case::next;
 use crate::case::room;
 use crate::case::word;
-use register::Dump;
+use dump::Dump;
 use register::Line;
 
 pub fn rule_agrees(
@@ -151,7 +151,7 @@ fn dump_outcome(
 ) -> bool {
     mark(scratch, 0x5c000000);
     mark(output, 0x0a000000);
-    let answer = register::read(input, scratch, output);
+    let answer = dump::read(input, scratch, output);
     let a = after_answer(line, at, answer);
     let b = after(line, a, scratch);
     ends(line, after(line, b, output))

@@ -1,5 +1,5 @@
 -- Laws on places, pieces, tokens and lines. Assumes nothing.
-use Prim.Native.Nat.{ℕ, zero, suc, _+_, _-_, _<_, _≤_}
+use Prim.Native.Nat.{ℕ, suc, _+_, _-_, _<_, _≤_}
 use native.Mathlib.Omega.{arith}
 use native.Mathlib.Nat.{add-zero, eq-or-lt-of-le}
 use native.Mathlib.Numerals.{add-one}
@@ -7,7 +7,7 @@ use mathlib.Core.Path.{_≡_, refl, _∙_, ap, sym}
 use mathlib.Core.Bool.{Bool, true, false, cond, not}
 use mathlib.Core.Logic.{⊎-elim}
 use mathlib.Core.List.{List, [], _∷_}
-use lib.ListN.{length, getD, take, drop, drop-of-length-le, length-drop, length-take}
+use lib.ListN.{length, getD, take, drop, drop-of-length-le, length-drop}
 use lib.Seq.{drop-cons, getD-drop, take-all, drop-drop, length-take-le, take-nil}
 use lib.Dec.{eqb}
 use native.Mathlib.Decide.{decLt}
@@ -118,8 +118,10 @@ lines-first s h = ⊎-elim at-end in-text (eq-or-lt-of-le (before-le isLineFeed 
   where
     n : ℕ
     n = before isLineFeed s
+
     in-text : n < length s → lines s ≡ take n s ∷ lines (drop (suc n) s)
     in-text l = in-lines s l
+
     at-end : n ≡ length s → lines s ≡ take n s ∷ lines (drop (suc n) s)
     at-end e = line-last s h (omega arith) ∙ ap (λ q. q ∷ []) (sym (take-all n s (omega arith))) ∙ ap (λ q. take n s ∷ q) (sym (ap (λ q. lines q) (drop-of-length-le s {i = suc n} (omega arith)) ∙ lines-none))
 
@@ -157,8 +159,10 @@ tokens-first s h = ⊎-elim at-end in-text (eq-or-lt-of-le (before-le isSpace s)
   where
     n : ℕ
     n = before isSpace s
+
     in-text : n < length s → tokens s ≡ take n s ∷ tokens (drop n s)
     in-text l = in-tokens s h l ∙ ap (λ q. take n s ∷ q) (sym (ap (λ q. tokens q) (drop-cons s n 0 l) ∙ tokens-space _ _ (stops isSpace s l)))
+
     at-end : n ≡ length s → tokens s ≡ take n s ∷ tokens (drop n s)
     at-end e = token-last s (omega arith) (omega arith) ∙ ap (λ q. q ∷ []) (sym (take-all n s (omega arith))) ∙ ap (λ q. take n s ∷ q) (sym (ap (λ q. tokens q) (drop-of-length-le s {i = n} (omega arith)) ∙ tokens-none))
 
@@ -178,6 +182,7 @@ module _ (s : List ℕ) (at : ℕ) where
     where
       b : before isLineFeed (drop at s) ≡ e - at
       b = before-place isLineFeed s at e q
+
       k : at + suc (e - at) ≡ e + 1
       k = let a : at ≤ e = rw q (place-above isLineFeed s at) in omega arith
 
@@ -206,6 +211,7 @@ module _ (s : List ℕ) (at st en : ℕ) (starts : st ≡ placeFrom (isNot isSpa
     where
       b : before isSpace (drop st s) ≡ en - st
       b = before-place isSpace s st en ends
+
       k : st + (en - st) ≡ en
       k = omega (arith, token-long h)
 
@@ -243,12 +249,13 @@ module _ (s : List ℕ) (k at st en : ℕ) (starts : st ≡ placeFrom (isNot isS
 
   nth : Nth s k st en
   nth = record {
-      ordered = rw ends (place-above isSpace s st);
-      within = rw ends (place-within isSpace s st start-in);
-      text = token-text s at st en starts ends ∙ ap (λ l. getD l 0 []) here ∙ getD-drop k (tokens s) 0 [] ∙ ap (λ n. getD (tokens s) n []) (add-zero k);
-      next = token-next s at st en starts ends ∙ ap (λ l. drop 1 l) here ∙ drop-drop 1 k (tokens s) ∙ ap (λ n. drop n (tokens s)) (add-one k);
-      there = λ h. omega (arith, ap length (token-there s at st en starts ends h), ap length here, length-drop k (tokens s));
-      missing = λ h. omega (arith, ap length (token-missing s at st en starts ends h), ap length here, length-drop k (tokens s)) }
+    ordered = rw ends (place-above isSpace s st);
+    within = rw ends (place-within isSpace s st start-in);
+    text = token-text s at st en starts ends ∙ ap (λ l. getD l 0 []) here ∙ getD-drop k (tokens s) 0 [] ∙ ap (λ n. getD (tokens s) n []) (add-zero k);
+    next = token-next s at st en starts ends ∙ ap (λ l. drop 1 l) here ∙ drop-drop 1 k (tokens s) ∙ ap (λ n. drop n (tokens s)) (add-one k);
+    there = λ h. omega (arith, ap length (token-there s at st en starts ends h), ap length here, length-drop k (tokens s));
+    missing = λ h. omega (arith, ap length (token-missing s at st en starts ends h), ap length here, length-drop k (tokens s));
+  }
 
 pub nth-first : (s : List ℕ) (t : Span) → TokenAt s 0 t → Nth s 0 (t .start) (t .end)
 nth-first s t h = nth s 0 0 (t .start) (t .end) (h .0) (h .1) (omega arith) refl

@@ -59,7 +59,8 @@ pub fn token(s: &[u8], at: usize) -> Span
     ensures { λ r. ⌜ TokenAt (now (s .entry)) at r ⌝ }
 {
     let start = token_start(s, at);
-    Span { start, end: token_end(s, start) }
+    let end = token_end(s, start);
+    Span { start, end }
 }
 
 // The first place from `at` on that holds LF, or the end.

@@ -7,30 +7,49 @@ pub const ROUTE_SHIFT: u32 = 8;
 
 // The codes of adapter types, bits 0 to 23 of ADP_CS_2.
 pub const ADP_CS_2_TYPE_INACTIVE: u32 = 0x000000;
+
 pub const ADP_CS_2_TYPE_LANE: u32 = 0x000001;
+
 pub const ADP_CS_2_TYPE_NHI: u32 = 0x000002;
+
 pub const ADP_CS_2_TYPE_DP_IN: u32 = 0x0e0101;
+
 pub const ADP_CS_2_TYPE_DP_OUT: u32 = 0x0e0102;
+
 pub const ADP_CS_2_TYPE_PCIE_DOWN: u32 = 0x100101;
+
 pub const ADP_CS_2_TYPE_PCIE_UP: u32 = 0x100102;
+
 pub const ADP_CS_2_TYPE_USB3_DOWN: u32 = 0x200101;
+
 pub const ADP_CS_2_TYPE_USB3_UP: u32 = 0x200102;
+
 pub const ADP_CS_2_TYPE_USB3_GENT_DOWN: u32 = 0x210101;
+
 pub const ADP_CS_2_TYPE_USB3_GENT_UP: u32 = 0x210102;
 
 // The codes of lane states, bits 26 to 29 of LANE_ADP_CS_1.
 pub const LANE_ADP_CS_1_ADAPTER_STATE_DISABLED: u32 = 0x00;
+
 pub const LANE_ADP_CS_1_ADAPTER_STATE_TRAINING: u32 = 0x01;
+
 pub const LANE_ADP_CS_1_ADAPTER_STATE_CL0: u32 = 0x02;
+
 pub const LANE_ADP_CS_1_ADAPTER_STATE_CL0S_TX: u32 = 0x03;
+
 pub const LANE_ADP_CS_1_ADAPTER_STATE_CL0S_RX: u32 = 0x04;
+
 pub const LANE_ADP_CS_1_ADAPTER_STATE_CL1: u32 = 0x05;
+
 pub const LANE_ADP_CS_1_ADAPTER_STATE_CL2: u32 = 0x06;
+
 pub const LANE_ADP_CS_1_ADAPTER_STATE_CLD: u32 = 0x07;
 
 // The codes of link speeds, bits 16 to 19 of LANE_ADP_CS_1.
 pub const LANE_ADP_CS_1_CURRENT_SPEED_GEN2: u32 = 0x08;
+
 pub const LANE_ADP_CS_1_CURRENT_SPEED_GEN3: u32 = 0x04;
+
 pub const LANE_ADP_CS_1_CURRENT_SPEED_GEN4: u32 = 0x02;
 
 // Adapter types, in the order of the Rust's `Type` (debugfs.rs).

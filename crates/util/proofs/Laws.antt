@@ -6,7 +6,7 @@ use native.Mathlib.Numerals.{add-one}
 use mathlib.Core.Path.{_≡_, refl, _∙_, ap, sym, subst}
 use mathlib.Core.Bool.{Bool, true, false, cond, _&&_, false≢true}
 use mathlib.Core.List.{List, [], _∷_}
-use lib.Dec.{leb, ltb, eqb}
+use lib.Dec.{leb, ltb}
 use lib.ListN.{length, getD, drop, drop-of-length-le}
 use lib.Pow.{pow-mono, shr-mod}
 use lib.Seq.{drop-cons}

@@ -11,7 +11,9 @@ pub enum Number {
 
 // The largest values of 16, 32 and 64 bits.
 pub const MAX_16: u64 = 0xffff;
+
 pub const MAX_32: u64 = 0xffff_ffff;
+
 pub const MAX_64: u64 = 0xffff_ffff_ffff_ffff;
 
 // The value of a digit, hexadecimal in either case; 16 for any other byte.

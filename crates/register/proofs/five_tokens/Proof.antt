@@ -1,17 +1,14 @@
-use mathlib.Core.Path.{_≡_, refl, sym, _∙_}
+use native.Mathlib.Nat.{lt-of-le-of-lt}
+use lib.Dec.{lit<}
+use mathlib.Core.Path.{_≡_, sym, _∙_}
 use denote.Ref.{now}
 use Rattle.util.specs.Number.{hexNumber, decimalNumber}
 use Rattle.util.specs.declared.Number.the-variants.{Value, None}
 use Rattle.util.proofs.Laws.{hex-le, decimal-le}
-use native.Mathlib.Omega.{arith}
 use Rattle.register.specs.Line.{fiveTokens, token, registerOf}
 use borrow.Author.Needs.{needs}
 use Rattle.register.proofs.five_tokens.Statement.{statement}
 use Rattle.register.proofs.five_tokens.Tie as tie
-use Rattle.register.proofs.five_tokens.Reads as reads
-use Rattle.register.proofs.five_tokens.Lts as lts
-use Rattle.util.proofs.parse_decimal.Reads as parse-decimal-reads
-use Rattle.util.proofs.parse_hex.Reads as parse-hex-reads
 
 -- src/lib.rt:96:33
 parse-hex-requires : tie.Need-parse-hex-requires
@@ -28,7 +25,7 @@ enum-told c = search needs
 -- src/lib.rt:97:9
 returns : tie.Need-returns
 unfolding fiveTokens token
-returns c = let e0 : hexNumber 0xffff (now (c .before .before .before .before .before .before .before .before .args .a)) ≡ None = cc in simp (e0)
+returns c = let e0 : hexNumber 0xffff (now (c .before .before .before .before .before .before .before .before .args .a)) ≡ None = sym (c .before .before .parse-hex .ensures) ∙ c .enum-told .given .1 in simp (e0)
 
 -- src/lib.rt:99:35
 parse-decimal-requires : tie.Need-parse-decimal-requires
@@ -45,8 +42,8 @@ enum-told-2 c = search needs
 -- src/lib.rt:100:9
 returns-2 : tie.Need-returns-2
 unfolding fiveTokens token
-returns-2 c = let e0 : hexNumber 0xffff (now (c .before .before .before .before .before .before .before .before .before .before .before .before .args .a)) ≡ Value (c .before .before .before .before .offset .given .0 .0) = cc in
-    let e1 : decimalNumber 0xffff (now (c .before .before .before .before .before .before .before .before .before .before .before .before .args .b)) ≡ None = cc in simp (e0, e1)
+returns-2 c = let e0 : hexNumber 0xffff (now (c .before .before .before .before .before .before .before .before .before .before .before .before .args .a)) ≡ Value (c .before .before .before .before .offset .given .0 .0) = sym (c .before .before .before .before .before .before .parse-hex .ensures) ∙ c .before .before .before .before .offset .given .1 in
+    let e1 : decimalNumber 0xffff (now (c .before .before .before .before .before .before .before .before .before .before .before .before .args .b)) ≡ None = sym (c .before .before .parse-decimal .ensures) ∙ c .enum-told2 .given .1 in simp (e0, e1)
 
 -- src/lib.rt:102:30
 parse-hex-requires-2 : tie.Need-parse-hex-requires-2
@@ -63,9 +60,9 @@ enum-told-3 c = search needs
 -- src/lib.rt:103:9
 returns-3 : tie.Need-returns-3
 unfolding fiveTokens token
-returns-3 c = let e0 : hexNumber 0xffff (now (c .before .before .before .before .before .before .before .before .before .before .before .before .before .before .before .before .args .a)) ≡ Value (c .before .before .before .before .before .before .before .before .offset .given .0 .0) = cc in
-    let e1 : decimalNumber 0xffff (now (c .before .before .before .before .before .before .before .before .before .before .before .before .before .before .before .before .args .b)) ≡ Value (c .before .before .before .before .relative .given .0 .0) = cc in
-    let e2 : hexNumber 0xffff (now (c .before .before .before .before .before .before .before .before .before .before .before .before .before .before .before .before .args .c)) ≡ None = cc in simp (e0, e1, e2)
+returns-3 c = let e0 : hexNumber 0xffff (now (c .before .before .before .before .before .before .before .before .before .before .before .before .before .before .before .before .args .a)) ≡ Value (c .before .before .before .before .before .before .before .before .offset .given .0 .0) = sym (c .before .before .before .before .before .before .before .before .before .before .parse-hex .ensures) ∙ c .before .before .before .before .before .before .before .before .offset .given .1 in
+    let e1 : decimalNumber 0xffff (now (c .before .before .before .before .before .before .before .before .before .before .before .before .before .before .before .before .args .b)) ≡ Value (c .before .before .before .before .relative .given .0 .0) = sym (c .before .before .before .before .before .before .parse-decimal .ensures) ∙ c .before .before .before .before .relative .given .1 in
+    let e2 : hexNumber 0xffff (now (c .before .before .before .before .before .before .before .before .before .before .before .before .before .before .before .before .args .c)) ≡ None = sym (c .before .before .parse-hex2 .ensures) ∙ c .enum-told3 .given .1 in simp (e0, e1, e2)
 
 -- src/lib.rt:105:29
 parse-hex-requires-3 : tie.Need-parse-hex-requires-3
@@ -82,10 +79,10 @@ enum-told-4 c = search needs
 -- src/lib.rt:106:9
 returns-4 : tie.Need-returns-4
 unfolding fiveTokens token
-returns-4 c = let e0 : hexNumber 0xffff (now (c .before .before .before .before .before .before .before .before .before .before .before .before .before .before .before .before .before .before .before .before .args .a)) ≡ Value (c .before .before .before .before .before .before .before .before .before .before .before .before .offset .given .0 .0) = cc in
-    let e1 : decimalNumber 0xffff (now (c .before .before .before .before .before .before .before .before .before .before .before .before .before .before .before .before .before .before .before .before .args .b)) ≡ Value (c .before .before .before .before .before .before .before .before .relative .given .0 .0) = cc in
-    let e2 : hexNumber 0xffff (now (c .before .before .before .before .before .before .before .before .before .before .before .before .before .before .before .before .before .before .before .before .args .c)) ≡ Value (c .before .before .before .before .cap .given .0 .0) = cc in
-    let e3 : hexNumber 0xffff (now (c .before .before .before .before .before .before .before .before .before .before .before .before .before .before .before .before .before .before .before .before .args .d)) ≡ None = cc in simp (e0, e1, e2, e3)
+returns-4 c = let e0 : hexNumber 0xffff (now (c .before .before .before .before .before .before .before .before .before .before .before .before .before .before .before .before .before .before .before .before .args .a)) ≡ Value (c .before .before .before .before .before .before .before .before .before .before .before .before .offset .given .0 .0) = sym (c .before .before .before .before .before .before .before .before .before .before .before .before .before .before .parse-hex .ensures) ∙ c .before .before .before .before .before .before .before .before .before .before .before .before .offset .given .1 in
+    let e1 : decimalNumber 0xffff (now (c .before .before .before .before .before .before .before .before .before .before .before .before .before .before .before .before .before .before .before .before .args .b)) ≡ Value (c .before .before .before .before .before .before .before .before .relative .given .0 .0) = sym (c .before .before .before .before .before .before .before .before .before .before .parse-decimal .ensures) ∙ c .before .before .before .before .before .before .before .before .relative .given .1 in
+    let e2 : hexNumber 0xffff (now (c .before .before .before .before .before .before .before .before .before .before .before .before .before .before .before .before .before .before .before .before .args .c)) ≡ Value (c .before .before .before .before .cap .given .0 .0) = sym (c .before .before .before .before .before .before .parse-hex2 .ensures) ∙ c .before .before .before .before .cap .given .1 in
+    let e3 : hexNumber 0xffff (now (c .before .before .before .before .before .before .before .before .before .before .before .before .before .before .before .before .before .before .before .before .args .d)) ≡ None = sym (c .before .before .parse-hex3 .ensures) ∙ c .enum-told4 .given .1 in simp (e0, e1, e2, e3)
 
 -- src/lib.rt:108:32
 parse-hex-requires-4 : tie.Need-parse-hex-requires-4
@@ -102,40 +99,40 @@ enum-told-5 c = search needs
 -- src/lib.rt:109:9
 returns-5 : tie.Need-returns-5
 unfolding fiveTokens token
-returns-5 c = let e0 : hexNumber 0xffff (now (c .before .before .before .before .before .before .before .before .before .before .before .before .before .before .before .before .before .before .before .before .before .before .before .before .args .a)) ≡ Value (c .before .before .before .before .before .before .before .before .before .before .before .before .before .before .before .before .offset .given .0 .0) = cc in
-    let e1 : decimalNumber 0xffff (now (c .before .before .before .before .before .before .before .before .before .before .before .before .before .before .before .before .before .before .before .before .before .before .before .before .args .b)) ≡ Value (c .before .before .before .before .before .before .before .before .before .before .before .before .relative .given .0 .0) = cc in
-    let e2 : hexNumber 0xffff (now (c .before .before .before .before .before .before .before .before .before .before .before .before .before .before .before .before .before .before .before .before .before .before .before .before .args .c)) ≡ Value (c .before .before .before .before .before .before .before .before .cap .given .0 .0) = cc in
-    let e3 : hexNumber 0xffff (now (c .before .before .before .before .before .before .before .before .before .before .before .before .before .before .before .before .before .before .before .before .before .before .before .before .args .d)) ≡ Value (c .before .before .before .before .vs .given .0 .0) = cc in
-    let e4 : hexNumber 0xffffffff (now (c .before .before .before .before .before .before .before .before .before .before .before .before .before .before .before .before .before .before .before .before .before .before .before .before .args .e)) ≡ None = cc in simp (e0, e1, e2, e3, e4)
+returns-5 c = let e0 : hexNumber 0xffff (now (c .before .before .before .before .before .before .before .before .before .before .before .before .before .before .before .before .before .before .before .before .before .before .before .before .args .a)) ≡ Value (c .before .before .before .before .before .before .before .before .before .before .before .before .before .before .before .before .offset .given .0 .0) = sym (c .before .before .before .before .before .before .before .before .before .before .before .before .before .before .before .before .before .before .parse-hex .ensures) ∙ c .before .before .before .before .before .before .before .before .before .before .before .before .before .before .before .before .offset .given .1 in
+    let e1 : decimalNumber 0xffff (now (c .before .before .before .before .before .before .before .before .before .before .before .before .before .before .before .before .before .before .before .before .before .before .before .before .args .b)) ≡ Value (c .before .before .before .before .before .before .before .before .before .before .before .before .relative .given .0 .0) = sym (c .before .before .before .before .before .before .before .before .before .before .before .before .before .before .parse-decimal .ensures) ∙ c .before .before .before .before .before .before .before .before .before .before .before .before .relative .given .1 in
+    let e2 : hexNumber 0xffff (now (c .before .before .before .before .before .before .before .before .before .before .before .before .before .before .before .before .before .before .before .before .before .before .before .before .args .c)) ≡ Value (c .before .before .before .before .before .before .before .before .cap .given .0 .0) = sym (c .before .before .before .before .before .before .before .before .before .before .parse-hex2 .ensures) ∙ c .before .before .before .before .before .before .before .before .cap .given .1 in
+    let e3 : hexNumber 0xffff (now (c .before .before .before .before .before .before .before .before .before .before .before .before .before .before .before .before .before .before .before .before .before .before .before .before .args .d)) ≡ Value (c .before .before .before .before .vs .given .0 .0) = sym (c .before .before .before .before .before .before .parse-hex3 .ensures) ∙ c .before .before .before .before .vs .given .1 in
+    let e4 : hexNumber 0xffffffff (now (c .before .before .before .before .before .before .before .before .before .before .before .before .before .before .before .before .before .before .before .before .before .before .before .before .args .e)) ≡ None = sym (c .before .before .parse-hex4 .ensures) ∙ c .enum-told5 .given .1 in simp (e0, e1, e2, e3, e4)
 
 -- src/lib.rt:112:17
 cast-t21 : tie.Need-cast-t21
-cast-t21 c = let e0 : hexNumber 0xffff (now (c .before .before .before .before .before .before .before .before .before .before .before .before .before .before .before .before .before .before .before .before .before .before .before .before .before .args .a)) ≡ Value (c .before .before .before .before .before .before .before .before .before .before .before .before .before .before .before .before .before .offset .given .0 .0) = cc in omega (arith, hex-le 0xffff (now (c .before .before .before .before .before .before .before .before .before .before .before .before .before .before .before .before .before .before .before .before .before .before .before .before .before .args .a)) (c .before .before .before .before .before .before .before .before .before .before .before .before .before .before .before .before .before .offset .given .0 .0) e0)
+cast-t21 c = let e0 : hexNumber 0xffff (now (c .before .before .before .before .before .before .before .before .before .before .before .before .before .before .before .before .before .before .before .before .before .before .before .before .before .args .a)) ≡ Value (c .before .before .before .before .before .before .before .before .before .before .before .before .before .before .before .before .before .offset .given .0 .0) = sym (c .before .before .before .before .before .before .before .before .before .before .before .before .before .before .before .before .before .before .before .parse-hex .ensures) ∙ c .before .before .before .before .before .before .before .before .before .before .before .before .before .before .before .before .before .offset .given .1 in record { fits = lt-of-le-of-lt (hex-le 0xffff (now (c .before .before .before .before .before .before .before .before .before .before .before .before .before .before .before .before .before .before .before .before .before .before .before .before .before .args .a)) (c .before .before .before .before .before .before .before .before .before .before .before .before .before .before .before .before .before .offset .given .0 .0) e0) (lit< tt) }
 
 -- src/lib.rt:113:26
 cast-t22 : tie.Need-cast-t22
-cast-t22 c = let e1 : decimalNumber 0xffff (now (c .before .before .before .before .before .before .before .before .before .before .before .before .before .before .before .before .before .before .before .before .before .before .before .before .before .args .b)) ≡ Value (c .before .before .before .before .before .before .before .before .before .before .before .before .before .relative .given .0 .0) = cc in omega (arith, decimal-le 0xffff (now (c .before .before .before .before .before .before .before .before .before .before .before .before .before .before .before .before .before .before .before .before .before .before .before .before .before .args .b)) (c .before .before .before .before .before .before .before .before .before .before .before .before .before .relative .given .0 .0) e1)
+cast-t22 c = let e1 : decimalNumber 0xffff (now (c .before .before .before .before .before .before .before .before .before .before .before .before .before .before .before .before .before .before .before .before .before .before .before .before .before .args .b)) ≡ Value (c .before .before .before .before .before .before .before .before .before .before .before .before .before .relative .given .0 .0) = sym (c .before .before .before .before .before .before .before .before .before .before .before .before .before .before .before .parse-decimal .ensures) ∙ c .before .before .before .before .before .before .before .before .before .before .before .before .before .relative .given .1 in record { fits = lt-of-le-of-lt (decimal-le 0xffff (now (c .before .before .before .before .before .before .before .before .before .before .before .before .before .before .before .before .before .before .before .before .before .before .before .before .before .args .b)) (c .before .before .before .before .before .before .before .before .before .before .before .before .before .relative .given .0 .0) e1) (lit< tt) }
 
 -- src/lib.rt:114:17
 cast-t23 : tie.Need-cast-t23
-cast-t23 c = let e2 : hexNumber 0xffff (now (c .before .before .before .before .before .before .before .before .before .before .before .before .before .before .before .before .before .before .before .before .before .before .before .before .before .args .c)) ≡ Value (c .before .before .before .before .before .before .before .before .before .cap .given .0 .0) = cc in omega (arith, hex-le 0xffff (now (c .before .before .before .before .before .before .before .before .before .before .before .before .before .before .before .before .before .before .before .before .before .before .before .before .before .args .c)) (c .before .before .before .before .before .before .before .before .before .cap .given .0 .0) e2)
+cast-t23 c = let e2 : hexNumber 0xffff (now (c .before .before .before .before .before .before .before .before .before .before .before .before .before .before .before .before .before .before .before .before .before .before .before .before .before .args .c)) ≡ Value (c .before .before .before .before .before .before .before .before .before .cap .given .0 .0) = sym (c .before .before .before .before .before .before .before .before .before .before .before .parse-hex2 .ensures) ∙ c .before .before .before .before .before .before .before .before .before .cap .given .1 in record { fits = lt-of-le-of-lt (hex-le 0xffff (now (c .before .before .before .before .before .before .before .before .before .before .before .before .before .before .before .before .before .before .before .before .before .before .before .before .before .args .c)) (c .before .before .before .before .before .before .before .before .before .cap .given .0 .0) e2) (lit< tt) }
 
 -- src/lib.rt:115:20
 cast-t24 : tie.Need-cast-t24
-cast-t24 c = let e3 : hexNumber 0xffff (now (c .before .before .before .before .before .before .before .before .before .before .before .before .before .before .before .before .before .before .before .before .before .before .before .before .before .args .d)) ≡ Value (c .before .before .before .before .before .vs .given .0 .0) = cc in omega (arith, hex-le 0xffff (now (c .before .before .before .before .before .before .before .before .before .before .before .before .before .before .before .before .before .before .before .before .before .before .before .before .before .args .d)) (c .before .before .before .before .before .vs .given .0 .0) e3)
+cast-t24 c = let e3 : hexNumber 0xffff (now (c .before .before .before .before .before .before .before .before .before .before .before .before .before .before .before .before .before .before .before .before .before .before .before .before .before .args .d)) ≡ Value (c .before .before .before .before .before .vs .given .0 .0) = sym (c .before .before .before .before .before .before .before .parse-hex3 .ensures) ∙ c .before .before .before .before .before .vs .given .1 in record { fits = lt-of-le-of-lt (hex-le 0xffff (now (c .before .before .before .before .before .before .before .before .before .before .before .before .before .before .before .before .before .before .before .before .before .before .before .before .before .args .d)) (c .before .before .before .before .before .vs .given .0 .0) e3) (lit< tt) }
 
 -- src/lib.rt:116:16
 cast-t25 : tie.Need-cast-t25
-cast-t25 c = let e4 : hexNumber 0xffffffff (now (c .before .before .before .before .before .before .before .before .before .before .before .before .before .before .before .before .before .before .before .before .before .before .before .before .before .args .e)) ≡ Value (c .before .value .given .0 .0) = cc in omega (arith, hex-le 0xffffffff (now (c .before .before .before .before .before .before .before .before .before .before .before .before .before .before .before .before .before .before .before .before .before .before .before .before .before .args .e)) (c .before .value .given .0 .0) e4)
+cast-t25 c = let e4 : hexNumber 0xffffffff (now (c .before .before .before .before .before .before .before .before .before .before .before .before .before .before .before .before .before .before .before .before .before .before .before .before .before .args .e)) ≡ Value (c .before .value .given .0 .0) = sym (c .before .before .before .parse-hex4 .ensures) ∙ c .before .value .given .1 in record { fits = lt-of-le-of-lt (hex-le 0xffffffff (now (c .before .before .before .before .before .before .before .before .before .before .before .before .before .before .before .before .before .before .before .before .before .before .before .before .before .args .e)) (c .before .value .given .0 .0) e4) (lit< tt) }
 
 -- src/lib.rt:93:1
 returns-6 : tie.Need-returns-6
 unfolding fiveTokens token registerOf
-returns-6 c = let e0 : hexNumber 0xffff (now (c .before .before .before .before .before .before .before .before .before .before .before .before .before .before .before .before .before .before .before .before .before .before .before .before .before .args .a)) ≡ Value (c .before .before .before .before .before .before .before .before .before .before .before .before .before .before .before .before .before .offset .given .0 .0) = cc in
-    let e1 : decimalNumber 0xffff (now (c .before .before .before .before .before .before .before .before .before .before .before .before .before .before .before .before .before .before .before .before .before .before .before .before .before .args .b)) ≡ Value (c .before .before .before .before .before .before .before .before .before .before .before .before .before .relative .given .0 .0) = cc in
-    let e2 : hexNumber 0xffff (now (c .before .before .before .before .before .before .before .before .before .before .before .before .before .before .before .before .before .before .before .before .before .before .before .before .before .args .c)) ≡ Value (c .before .before .before .before .before .before .before .before .before .cap .given .0 .0) = cc in
-    let e3 : hexNumber 0xffff (now (c .before .before .before .before .before .before .before .before .before .before .before .before .before .before .before .before .before .before .before .before .before .before .before .before .before .args .d)) ≡ Value (c .before .before .before .before .before .vs .given .0 .0) = cc in
-    let e4 : hexNumber 0xffffffff (now (c .before .before .before .before .before .before .before .before .before .before .before .before .before .before .before .before .before .before .before .before .before .before .before .before .before .args .e)) ≡ Value (c .before .value .given .0 .0) = cc in simp (e0, e1, e2, e3, e4)
+returns-6 c = let e0 : hexNumber 0xffff (now (c .before .before .before .before .before .before .before .before .before .before .before .before .before .before .before .before .before .before .before .before .before .before .before .before .before .args .a)) ≡ Value (c .before .before .before .before .before .before .before .before .before .before .before .before .before .before .before .before .before .offset .given .0 .0) = sym (c .before .before .before .before .before .before .before .before .before .before .before .before .before .before .before .before .before .before .before .parse-hex .ensures) ∙ c .before .before .before .before .before .before .before .before .before .before .before .before .before .before .before .before .before .offset .given .1 in
+    let e1 : decimalNumber 0xffff (now (c .before .before .before .before .before .before .before .before .before .before .before .before .before .before .before .before .before .before .before .before .before .before .before .before .before .args .b)) ≡ Value (c .before .before .before .before .before .before .before .before .before .before .before .before .before .relative .given .0 .0) = sym (c .before .before .before .before .before .before .before .before .before .before .before .before .before .before .before .parse-decimal .ensures) ∙ c .before .before .before .before .before .before .before .before .before .before .before .before .before .relative .given .1 in
+    let e2 : hexNumber 0xffff (now (c .before .before .before .before .before .before .before .before .before .before .before .before .before .before .before .before .before .before .before .before .before .before .before .before .before .args .c)) ≡ Value (c .before .before .before .before .before .before .before .before .before .cap .given .0 .0) = sym (c .before .before .before .before .before .before .before .before .before .before .before .parse-hex2 .ensures) ∙ c .before .before .before .before .before .before .before .before .before .cap .given .1 in
+    let e3 : hexNumber 0xffff (now (c .before .before .before .before .before .before .before .before .before .before .before .before .before .before .before .before .before .before .before .before .before .before .before .before .before .args .d)) ≡ Value (c .before .before .before .before .before .vs .given .0 .0) = sym (c .before .before .before .before .before .before .before .parse-hex3 .ensures) ∙ c .before .before .before .before .before .vs .given .1 in
+    let e4 : hexNumber 0xffffffff (now (c .before .before .before .before .before .before .before .before .before .before .before .before .before .before .before .before .before .before .before .before .before .before .before .before .before .args .e)) ≡ Value (c .before .value .given .0 .0) = sym (c .before .before .before .parse-hex4 .ensures) ∙ c .before .value .given .1 in simp (e0, e1, e2, e3, e4)
 
 pub five-tokens-spec : {M : Type 1} → statement M
 five-tokens-spec =

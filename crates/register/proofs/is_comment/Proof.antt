@@ -7,8 +7,6 @@ use mathlib.Core.Path.{refl}
 use borrow.Author.Needs.{needs}
 use Rattle.register.proofs.is_comment.Statement.{statement}
 use Rattle.register.proofs.is_comment.Tie as tie
-use Rattle.register.proofs.is_comment.Reads as reads
-use Rattle.register.proofs.is_comment.Lts as lts
 
 -- src/lib.rt:65:9
 returns : tie.Need-returns

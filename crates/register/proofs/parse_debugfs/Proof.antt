@@ -1,4 +1,4 @@
-use mathlib.Core.Path.{_≡_, refl, sym, _∙_}
+use mathlib.Core.Path.{sym, _∙_, _≡_}
 use denote.Ref.{now}
 use lib.ListN.{length}
 use borrow.Author.Tests.{lt-ltb, le-ltb}
@@ -10,10 +10,6 @@ use Rattle.register.specs.declared.Met.the-variants.{Record, Skipped}
 use borrow.Author.Needs.{needs}
 use Rattle.register.proofs.parse_debugfs.Statement.{statement}
 use Rattle.register.proofs.parse_debugfs.Tie as tie
-use Rattle.register.proofs.parse_debugfs.Reads as reads
-use Rattle.register.proofs.parse_debugfs.Lts as lts
-use Rattle.register.proofs.read_line.Reads as read-line-reads
-use Rattle.scan.proofs.first_high.Reads as first-high-reads
 
 -- src/lib.rt:158:9
 first-high-requires : tie.Need-first-high-requires
@@ -43,7 +39,7 @@ returns-2 : tie.Need-returns-2
 unfolding lineAnswer lineOutcome recordOf
 returns-2 c = let s = now (c .before .before .before .before .before .before .args .line) in
     let p : length s ≤ placeFrom isHigh s 0 = omega (arith, c .before .before .before .before .first-high .ensures) in
-    let e : meaning s ≡ Skipped (c .enum-told .given .0 .0) = cc in
+    let e : meaning s ≡ Skipped (c .enum-told .given .0 .0) = sym (c .before .before .read-line .ensures) ∙ c .enum-told .given .1 in
     simp (le-ltb _ _ p, e)
 
 -- src/lib.rt:155:1
@@ -51,7 +47,7 @@ returns-3 : tie.Need-returns-3
 unfolding lineAnswer lineOutcome recordOf
 returns-3 c = let s = now (c .before .before .before .before .before .before .before .args .line) in
     let p : length s ≤ placeFrom isHigh s 0 = omega (arith, c .before .before .before .before .before .first-high .ensures) in
-    let e : meaning s ≡ Record (c .before .r .given .0 .0) = cc in
+    let e : meaning s ≡ Record (c .before .r .given .0 .0) = sym (c .before .before .before .read-line .ensures) ∙ c .before .r .given .1 in
     simp (le-ltb _ _ p, e)
 
 pub parse-debugfs-spec : {M : Type 1} → statement M

@@ -1,24 +1,13 @@
-use Rattle.scan.proofs.Laws.{nth-first, nth-next, Nth}
-use Rattle.register.proofs.Lines.{is-comment, is-few, is-four, is-five, spans}
-use Prim.Native.Nat.{_<_, _≤_, _-_}
-use mathlib.Core.Path.{_≡_, refl, sym, _∙_, ap}
-use mathlib.Core.Bool.{false, true}
-use mathlib.Core.List.{[]}
+use Rattle.scan.proofs.Laws.{nth-next}
+use Rattle.register.proofs.Laws.{is-comment, is-few, is-four, is-five, spans}
+use mathlib.Core.Path.{_≡_, sym, _∙_}
 use denote.Ref.{now}
 use native.Mathlib.Omega.{arith}
-use lib.ListN.{length, take, drop, getD}
+use lib.ListN.{length}
 use Rattle.scan.specs.Scan.{tokens}
-use Rattle.register.specs.Line.{meaning, isComment, fourTokens, fiveTokens}
 use borrow.Author.Needs.{needs}
 use Rattle.register.proofs.read_line.Statement.{statement}
 use Rattle.register.proofs.read_line.Tie as tie
-use Rattle.register.proofs.read_line.Reads as reads
-use Rattle.register.proofs.read_line.Lts as lts
-use Rattle.register.proofs.five_tokens.Reads as five-tokens-reads
-use Rattle.register.proofs.four_tokens.Reads as four-tokens-reads
-use Rattle.register.proofs.is_comment.Reads as is-comment-reads
-use Rattle.register.proofs.part.Reads as part-reads
-use Rattle.scan.proofs.token.Reads as token-reads
 
 -- src/lib.rt:134:8
 is-comment-requires : tie.Need-is-comment-requires
@@ -75,10 +64,7 @@ returns-3 c = let s = now (c .before .before .before .before .before .before .be
     let n = spans (now (c .before .before .before .before .before .before .before .before .before .before .before .before .before .before .before .before .args .s)) _ _ _ _ (c .before .before .before .before .before .before .before .before .before .before .before .before .token .ensures) (c .before .before .before .before .before .before .before .before .before .before .before .token2 .ensures) (c .before .before .before .before .before .before .before .before .before .before .token3 .ensures) (c .before .before .before .before .before .before .before .before .before .token4 .ensures) in
     let n4 = nth-next (n .n3) _ (c .before .before .before .before .before .before .token5 .ensures) in
     let l : length (tokens s) ≡ 4 = omega (arith, n .n3 .there (c .before .before .before .before .before .before .before .if2 .left), n4 .missing (c .before .if3 .taken)) in
-    let ta = c .before .before .before .before .before .part .ensures ∙ n .n0 .text in
-    let tb = c .before .before .before .before .part2 .ensures ∙ n .n1 .text in
-    let td = c .before .before .before .part3 .ensures ∙ n .n3 .text in
-    cc (c .four-tokens .ensures, ta, tb, td, is-four s (sym (c .before .before .before .before .before .before .before .before .before .before .before .before .before .before .is-comment .ensures) ∙ c .before .before .before .before .before .before .before .before .before .before .before .before .before .if1 .left) l)
+    c .four-tokens .ensures ∙ is-four s (sym (c .before .before .before .before .before .before .before .before .before .before .before .before .before .before .is-comment .ensures) ∙ c .before .before .before .before .before .before .before .before .before .before .before .before .before .if1 .left) l _ _ _ (c .before .before .before .before .before .part .ensures ∙ n .n0 .text) (c .before .before .before .before .part2 .ensures ∙ n .n1 .text) (c .before .before .before .part3 .ensures ∙ n .n3 .text)
 
 -- src/lib.rt:151:25
 part-requires-4 : tie.Need-part-requires-4
@@ -97,12 +83,7 @@ returns-4 : tie.Need-returns-4
 returns-4 c = let s = now (c .before .before .before .before .before .before .before .before .before .before .before .before .before .before .before .before .before .before .args .s) in
     let n = spans (now (c .before .before .before .before .before .before .before .before .before .before .before .before .before .before .before .before .before .before .args .s)) _ _ _ _ (c .before .before .before .before .before .before .before .before .before .before .before .before .before .before .token .ensures) (c .before .before .before .before .before .before .before .before .before .before .before .before .before .token2 .ensures) (c .before .before .before .before .before .before .before .before .before .before .before .before .token3 .ensures) (c .before .before .before .before .before .before .before .before .before .before .before .token4 .ensures) in
     let n4 = nth-next (n .n3) _ (c .before .before .before .before .before .before .before .before .token5 .ensures) in
-    let ta = c .before .before .before .before .before .before .before .part .ensures ∙ n .n0 .text in
-    let tb = c .before .before .before .before .before .before .part2 .ensures ∙ n .n1 .text in
-    let tc = c .before .before .part4 .ensures ∙ n .n2 .text in
-    let td = c .before .before .before .before .before .part3 .ensures ∙ n .n3 .text in
-    let te = c .before .part5 .ensures ∙ n4 .text in
-    cc (c .five-tokens .ensures, ta, tb, tc, td, te, is-five s (sym (c .before .before .before .before .before .before .before .before .before .before .before .before .before .before .before .before .is-comment .ensures) ∙ c .before .before .before .before .before .before .before .before .before .before .before .before .before .before .before .if1 .left) (n4 .there (c .before .before .before .if3 .left)))
+    c .five-tokens .ensures ∙ is-five s (sym (c .before .before .before .before .before .before .before .before .before .before .before .before .before .before .before .before .is-comment .ensures) ∙ c .before .before .before .before .before .before .before .before .before .before .before .before .before .before .before .if1 .left) (n4 .there (c .before .before .before .if3 .left)) _ _ _ _ _ (c .before .before .before .before .before .before .before .part .ensures ∙ n .n0 .text) (c .before .before .before .before .before .before .part2 .ensures ∙ n .n1 .text) (c .before .before .part4 .ensures ∙ n .n2 .text) (c .before .before .before .before .before .part3 .ensures ∙ n .n3 .text) (c .before .part5 .ensures ∙ n4 .text)
 
 pub read-line-spec : {M : Type 1} → statement M
 read-line-spec =

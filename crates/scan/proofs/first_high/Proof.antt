@@ -1,15 +1,12 @@
-use Prim.Native.Nat.{_≤_, _-_, _<_, _+_}
+use Prim.Native.Nat.{_-_}
 use native.Mathlib.Omega.{arith}
 use borrow.Author.Tests.{lt-ltb, le-ltb}
-use denote.Ref.{now}
 use mathlib.Core.Path.{_≡_, _∙_, sym, refl}
 use lib.ListN.{length}
 use Rattle.scan.specs.Scan.{isHigh, placeFrom}
 use Rattle.scan.proofs.Laws.{place-here, place-on, place-end}
 use Rattle.scan.proofs.first_high.Statement.{statement}
 use Rattle.scan.proofs.first_high.Tie as tie
-use Rattle.scan.proofs.first_high.Reads as reads
-use Rattle.scan.proofs.first_high.Lts as lts
 
 abbrev Inv-loop : tie.InvT-loop
 Inv-loop s i₀ i = placeFrom isHigh s 0 ≡ placeFrom isHigh s i

@@ -1,10 +1,7 @@
 use Rattle.scan.proofs.Laws.{space-last}
-use borrow.Author.Tests.{eq-eqb, ne-eqb}
 use Rattle.scan.specs.Scan.{isSpace}
 use Rattle.scan.proofs.is_space.Statement.{statement}
 use Rattle.scan.proofs.is_space.Tie as tie
-use Rattle.scan.proofs.is_space.Reads as reads
-use Rattle.scan.proofs.is_space.Lts as lts
 
 -- src/lib.rt:17:9
 returns : tie.Need-returns

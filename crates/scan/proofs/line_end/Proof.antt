@@ -1,15 +1,12 @@
-use Prim.Native.Nat.{_≤_, _-_, _<_, _+_}
+use Prim.Native.Nat.{_-_}
 use native.Mathlib.Omega.{arith}
 use borrow.Author.Tests.{eq-eqb, ne-eqb}
-use denote.Ref.{now}
 use mathlib.Core.Path.{_≡_, _∙_, sym, refl}
 use lib.ListN.{length}
 use Rattle.scan.specs.Scan.{isLineFeed, placeFrom}
 use Rattle.scan.proofs.Laws.{place-here, place-on, place-end}
 use Rattle.scan.proofs.line_end.Statement.{statement}
 use Rattle.scan.proofs.line_end.Tie as tie
-use Rattle.scan.proofs.line_end.Reads as reads
-use Rattle.scan.proofs.line_end.Lts as lts
 
 abbrev Inv-loop : tie.InvT-loop
 Inv-loop s at i₀ i = placeFrom isLineFeed s at ≡ placeFrom isLineFeed s i

@@ -1,18 +1,12 @@
-use Prim.Native.Nat.{_≤_, _-_, _<_, _+_}
+use Prim.Native.Nat.{_-_}
 use native.Mathlib.Omega.{arith}
-use borrow.Author.Tests.{not-true, not-false}
 use borrow.Author.Needs.{needs}
-use denote.Ref.{now}
-use mathlib.Core.Bool.{not}
-use mathlib.Core.Path.{_≡_, _∙_, sym, refl, ap}
+use mathlib.Core.Path.{_≡_, _∙_, sym, refl}
 use lib.ListN.{length}
 use Rattle.scan.specs.Scan.{isSpace, isNot, placeFrom}
 use Rattle.scan.proofs.Laws.{place-here, place-on, place-end}
 use Rattle.scan.proofs.token_end.Statement.{statement}
 use Rattle.scan.proofs.token_end.Tie as tie
-use Rattle.scan.proofs.token_end.Reads as reads
-use Rattle.scan.proofs.token_end.Lts as lts
-use Rattle.scan.proofs.is_space.Reads as is-space-reads
 
 abbrev Inv-loop : tie.InvT-loop
 Inv-loop s at i₀ i = placeFrom isSpace s at ≡ placeFrom isSpace s i

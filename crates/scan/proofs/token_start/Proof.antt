@@ -1,8 +1,6 @@
-use Prim.Native.Nat.{_≤_, _-_, _<_, _+_}
+use Prim.Native.Nat.{_-_}
 use native.Mathlib.Omega.{arith}
-use borrow.Author.Tests.{not-true, not-false}
 use borrow.Author.Needs.{needs}
-use denote.Ref.{now}
 use mathlib.Core.Bool.{not}
 use mathlib.Core.Path.{_≡_, _∙_, sym, refl, ap}
 use lib.ListN.{length}
@@ -10,9 +8,6 @@ use Rattle.scan.specs.Scan.{isSpace, isNot, placeFrom}
 use Rattle.scan.proofs.Laws.{place-here, place-on, place-end}
 use Rattle.scan.proofs.token_start.Statement.{statement}
 use Rattle.scan.proofs.token_start.Tie as tie
-use Rattle.scan.proofs.token_start.Reads as reads
-use Rattle.scan.proofs.token_start.Lts as lts
-use Rattle.scan.proofs.is_space.Reads as is-space-reads
 
 abbrev Inv-loop : tie.InvT-loop
 Inv-loop s at i₀ i = placeFrom (isNot isSpace) s at ≡ placeFrom (isNot isSpace) s i

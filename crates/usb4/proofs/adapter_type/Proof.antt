@@ -2,8 +2,6 @@ use borrow.Author.Tests.{ne-eqb}
 use Rattle.usb4.specs.Codes.{typeOf}
 use Rattle.usb4.proofs.adapter_type.Statement.{statement}
 use Rattle.usb4.proofs.adapter_type.Tie as tie
-use Rattle.usb4.proofs.adapter_type.Reads as reads
-use Rattle.usb4.proofs.adapter_type.Lts as lts
 
 -- src/lib.rt:97:9
 returns : tie.Need-returns

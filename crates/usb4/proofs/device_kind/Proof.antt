@@ -2,8 +2,6 @@ use borrow.Author.Tests.{ne-eqb}
 use Rattle.usb4.specs.Codes.{kindOf}
 use Rattle.usb4.proofs.device_kind.Statement.{statement}
 use Rattle.usb4.proofs.device_kind.Tie as tie
-use Rattle.usb4.proofs.device_kind.Reads as reads
-use Rattle.usb4.proofs.device_kind.Lts as lts
 
 -- src/lib.rt:184:9
 returns : tie.Need-returns

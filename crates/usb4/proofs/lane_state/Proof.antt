@@ -2,8 +2,6 @@ use borrow.Author.Tests.{ne-eqb}
 use Rattle.usb4.specs.Codes.{laneStateOf}
 use Rattle.usb4.proofs.lane_state.Statement.{statement}
 use Rattle.usb4.proofs.lane_state.Tie as tie
-use Rattle.usb4.proofs.lane_state.Reads as reads
-use Rattle.usb4.proofs.lane_state.Lts as lts
 
 -- src/lib.rt:137:9
 returns : tie.Need-returns

@@ -2,8 +2,6 @@ use borrow.Author.Tests.{ne-eqb}
 use Rattle.usb4.specs.Codes.{speedOf}
 use Rattle.usb4.proofs.link_speed.Statement.{statement}
 use Rattle.usb4.proofs.link_speed.Tie as tie
-use Rattle.usb4.proofs.link_speed.Reads as reads
-use Rattle.usb4.proofs.link_speed.Lts as lts
 
 -- src/lib.rt:168:9
 returns : tie.Need-returns

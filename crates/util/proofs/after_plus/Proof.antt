@@ -1,16 +1,13 @@
 use native.Mathlib.Omega.{arith}
 use Prim.Native.Nat.{_≤_, _-_}
 use borrow.Author.Tests.{eq-eqb, ne-eqb}
-use lib.ListN.{length, drop, getD, List·getD-eq-default, length-drop}
+use lib.ListN.{length, drop, List·getD-eq-default, length-drop}
 use lib.Seq.{take-all}
-use mathlib.Core.Path.{_≡_}
 use denote.Ref.{now}
 use Rattle.util.specs.Number.{afterPlus}
 use borrow.Author.Needs.{needs}
 use Rattle.util.proofs.after_plus.Statement.{statement}
 use Rattle.util.proofs.after_plus.Tie as tie
-use Rattle.util.proofs.after_plus.Reads as reads
-use Rattle.util.proofs.after_plus.Lts as lts
 
 -- src/lib.rt:57:9
 returns : tie.Need-returns

@@ -1,8 +1,7 @@
 use native.Mathlib.Omega.{arith}
 use Prim.Native.Nat.{_≤_, _-_}
-use lib.ListN.{length, drop, getD, List·getD-eq-default, length-drop}
+use lib.ListN.{length, drop, List·getD-eq-default, length-drop}
 use lib.Seq.{take-all}
-use mathlib.Core.Path.{_≡_}
 use denote.Ref.{now}
 use Rattle.util.proofs.Laws.{and-false}
 use borrow.Author.Tests.{eq-eqb, ne-eqb}
@@ -10,8 +9,6 @@ use Rattle.util.specs.Number.{afterPrefix}
 use borrow.Author.Needs.{needs}
 use Rattle.util.proofs.after_prefix.Statement.{statement}
 use Rattle.util.proofs.after_prefix.Tie as tie
-use Rattle.util.proofs.after_prefix.Reads as reads
-use Rattle.util.proofs.after_prefix.Lts as lts
 
 -- src/lib.rt:41:9
 returns : tie.Need-returns

@@ -1,5 +1,5 @@
-use Prim.Native.Nat.{_+_, _-_, _^_}
-use mathlib.Core.Path.{_≡_, _∙_, ap, sym}
+use Prim.Native.Nat.{_+_, _-_}
+use mathlib.Core.Path.{sym}
 use native.Mathlib.Omega.{arith}
 use native.Mathlib.Nat.{one-mul}
 use lib.Pow.{shl-exact, pow-pos}
@@ -8,8 +8,6 @@ use Rattle.util.proofs.Laws.{bits-none, bits-top, bits-past}
 use borrow.Author.Needs.{needs}
 use Rattle.util.proofs.bits.Statement.{statement}
 use Rattle.util.proofs.bits.Tie as tie
-use Rattle.util.proofs.bits.Reads as reads
-use Rattle.util.proofs.bits.Lts as lts
 
 -- src/lib.rt:119:9
 returns : tie.Need-returns

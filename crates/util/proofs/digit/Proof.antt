@@ -3,8 +3,6 @@ use Rattle.util.specs.Number.{digitOf}
 use borrow.Author.Needs.{needs}
 use Rattle.util.proofs.digit.Statement.{statement}
 use Rattle.util.proofs.digit.Tie as tie
-use Rattle.util.proofs.digit.Reads as reads
-use Rattle.util.proofs.digit.Lts as lts
 
 -- src/lib.rt:16:9
 returns : tie.Need-returns

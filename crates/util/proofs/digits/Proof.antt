@@ -1,17 +1,14 @@
+use mathlib.Core.Path.{ap, _≡_, _∙_, sym}
 use lib.ListN.{length, drop, getD}
 use Prim.Native.Nat.{_<_, _≤_, _-_, _*_, _+_}
 use denote.Ref.{now}
 use native.Mathlib.Omega.{arith}
 use borrow.Author.Needs.{needs}
-use mathlib.Core.Path.{_≡_, _∙_, sym}
 use borrow.Author.Tests.{le-ltb}
 use Rattle.util.specs.Number.{digitOf, numberOf}
 use Rattle.util.proofs.Laws.{rest, rest-start, rest-bad, rest-step, rest-over, rest-end, fits-base, past-base}
 use Rattle.util.proofs.digits.Statement.{statement}
 use Rattle.util.proofs.digits.Tie as tie
-use Rattle.util.proofs.digits.Reads as reads
-use Rattle.util.proofs.digits.Lts as lts
-use Rattle.util.proofs.digit.Reads as digit-reads
 
 abbrev Inv-loop : tie.InvT-loop
 Inv-loop s base max most v₀ i₀ v i = (i ≤ length s) × (v ≤ max) × (numberOf base max s ≡ rest base max v (drop i s))
@@ -44,16 +41,16 @@ digit-requires c κs = search needs
 returns-2 : tie.Need-returns-2 Inv-loop μ-loop
 returns-2 c = let a = c .before .before .before .before .before .before .before .args in
     let l = c .before .before .before .before .loop in
-    let d : digitOf (getD (now (a .s)) (l .i) 0) ≡ c .before .digit .result = cc in
-    cc (rest-bad (a .base) (omega arith) (a .max) (l .v) (now (a .s)) (l .i) (omega arith) (omega arith))
+    let d : digitOf (getD (now (a .s)) (l .i) 0) ≡ c .before .digit .result = sym (c .before .digit .ensures) in
+    sym (l .inv .2 ∙ rest-bad (a .base) (omega arith) (a .max) (l .v) (now (a .s)) (l .i) (omega arith) (omega arith))
 
 -- src/lib.rt:88:13
 returns-3 : tie.Need-returns-3 Inv-loop μ-loop
 returns-3 c = let a = c .before .before .before .before .before .before .before .before .args in
     let l = c .before .before .before .before .before .loop in
-    let d : digitOf (getD (now (a .s)) (l .i) 0) ≡ c .before .before .digit .result = cc in
+    let d : digitOf (getD (now (a .s)) (l .i) 0) ≡ c .before .before .digit .result = sym (c .before .before .digit .ensures) in
     let p : 0 < a .base = omega arith in
-    cc (rest-over (a .base) p (a .max) (l .v) (now (a .s)) (l .i) (omega arith) (omega arith) (omega (arith, past-base p (c .if3 .taken))))
+    sym (l .inv .2 ∙ rest-over (a .base) p (a .max) (l .v) (now (a .s)) (l .i) (omega arith) (omega arith) (omega (arith, past-base p (c .if3 .taken))))
 
 -- src/lib.rt:90:23
 mul-shifted : tie.Need-mul-shifted Inv-loop μ-loop
@@ -69,8 +66,8 @@ sub-if4 c = let p : 0 < c .before .before .before .before .before .before .befor
 returns-4 : tie.Need-returns-4 Inv-loop μ-loop
 returns-4 c = let a = c .before .before .before .before .before .before .before .before .before .args in
     let l = c .before .before .before .before .before .before .loop in
-    let d : digitOf (getD (now (a .s)) (l .i) 0) ≡ c .before .before .before .digit .result = cc in
-    cc (rest-over (a .base) (omega arith) (a .max) (l .v) (now (a .s)) (l .i) (omega arith) (omega arith) (omega arith))
+    let d : digitOf (getD (now (a .s)) (l .i) 0) ≡ c .before .before .before .digit .result = sym (c .before .before .before .digit .ensures) in
+    sym (l .inv .2 ∙ rest-over (a .base) (omega arith) (a .max) (l .v) (now (a .s)) (l .i) (omega arith) (omega arith) (omega arith))
 
 -- src/lib.rt:94:13
 add-v : tie.Need-add-v Inv-loop μ-loop
@@ -89,15 +86,15 @@ loop-less c = omega arith
 loop-again : tie.Need-loop-again Inv-loop μ-loop
 loop-again c = let a = c .before .before .before .before .before .before .before .before .before .args in
     let l = c .before .before .before .before .before .before .loop in
-    let d : digitOf (getD (now (a .s)) (l .i) 0) ≡ c .before .before .before .digit .result = cc in
+    let d : digitOf (getD (now (a .s)) (l .i) 0) ≡ c .before .before .before .digit .result = sym (c .before .before .before .digit .ensures) in
     let p : 0 < a .base = omega arith in
-    (omega arith, omega (arith, fits-base p (c .before .if3 .left)), cc (rest-step (a .base) p (a .max) (l .v) (now (a .s)) (l .i) (omega arith) (omega arith)))
+    (omega arith, omega (arith, fits-base p (c .before .if3 .left)), l .inv .2 ∙ rest-step (a .base) p (a .max) (l .v) (now (a .s)) (l .i) (omega arith) (omega arith) ∙ ap (λ x. rest (a .base) (a .max) (l .v * a .base + x) (drop (l .i + 1) (now (a .s)))) d)
 
 -- src/lib.rt:72:1
 returns-5 : tie.Need-returns-5 Inv-loop μ-loop
 returns-5 c = let a = c .before .before .before .before .args in
     let l = c .before .loop in
-    cc (rest-end (a .base) (omega arith) (a .max) (l .v) (now (a .s)) (l .i) (omega arith) (omega arith))
+    sym (l .inv .2 ∙ rest-end (a .base) (omega arith) (a .max) (l .v) (now (a .s)) (l .i) (omega arith) (omega arith))
 
 pub digits-spec : {M : Type 1} → statement M
 digits-spec =

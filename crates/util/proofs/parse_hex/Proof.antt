@@ -1,12 +1,8 @@
-use Rattle.util.specs.Number.{hexNumber}
+use mathlib.Core.Path.{_∙_, ap}
+use Rattle.util.specs.Number.{numberOf, afterPlus, hexNumber}
 use borrow.Author.Needs.{needs}
 use Rattle.util.proofs.parse_hex.Statement.{statement}
 use Rattle.util.proofs.parse_hex.Tie as tie
-use Rattle.util.proofs.parse_hex.Reads as reads
-use Rattle.util.proofs.parse_hex.Lts as lts
-use Rattle.util.proofs.after_plus.Reads as after-plus-reads
-use Rattle.util.proofs.after_prefix.Reads as after-prefix-reads
-use Rattle.util.proofs.digits.Reads as digits-reads
 
 -- src/lib.rt:104:23
 after-prefix-requires : tie.Need-after-prefix-requires
@@ -23,7 +19,7 @@ digits-requires c κs = search needs
 -- src/lib.rt:101:1
 returns : tie.Need-returns
 unfolding hexNumber
-returns c = cc
+returns c = c .digits .ensures ∙ ap (λ t. numberOf 16 (c .before .before .before .before .args .max) t) (c .before .after-plus .ensures ∙ ap afterPlus (c .before .before .after-prefix .ensures))
 
 pub parse-hex-spec : {M : Type 1} → statement M
 parse-hex-spec =

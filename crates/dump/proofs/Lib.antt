@@ -1,0 +1,4 @@
+pub mod Groups
+pub mod Lines
+pub mod Reading
+pub mod Sorting

@@ -1,0 +1,92 @@
+-- Laws of the groups: bit fields, bytes, sizes, and what a scan over the heads has before it. Assumes nothing.
+use Prim.Native.Nat.{ℕ, zero, suc, _+_, _-_, _*_, _/_, _%_, _^_, _≤_, _<_}
+use mathlib.Core.Path.{_≡_, refl, sym, ap, _∙_, subst}
+use mathlib.Core.List.{List, [], _∷_}
+use mathlib.Core.Bool.{Bool, true, false, cond}
+use native.Mathlib.Omega.{arith}
+use native.Mathlib.Nat.{mod-lt, div-one, sub-zero, zero-div}
+use lib.ListN.{length, List·getD-eq-default}
+use lib.Dec.{eqb}
+use borrow.Author.Tests.{lt-ltb, le-ltb}
+use Rattle.util.specs.Bits.{bitsOf}
+use Rattle.layout.specs.Layout.{bits, low, word, byteAt, sizeOf, headsFrom, heads}
+
+-- the bit fields here are util's
+pub bits-same : (w l h : ℕ) → bitsOf w l h ≡ bits w l h
+unfolding bitsOf
+bits-same w l h = refl
+
+pub low-same : (w h : ℕ) → bitsOf w 0 h ≡ low w h
+unfolding bitsOf
+low-same w h = rw (div-one, sub-zero) refl
+
+-- a loop's count, one step on
+pub one-less : (i n : ℕ) → i < n → n - i ≡ suc (n - (i + 1))
+one-less i n l = omega arith
+
+-- a byte past the end
+pub byte-past : (t : List ℕ) (p j : ℕ) → length t ≤ p → byteAt t p j ≡ 0
+unfolding byteAt
+byte-past t p j l =
+    ap (λ (w : ℕ). w / 256 ^ (j % 4) % 256) (List·getD-eq-default t 0 {n = p + j / 4} (omega arith)) ∙ ap (λ (w : ℕ). w % 256) (zero-div (256 ^ (j % 4)))
+
+pub byte-small : (t : List ℕ) (p j : ℕ) → byteAt t p j < 256
+unfolding byteAt
+byte-small t p j = mod-lt _ (omega arith)
+
+-- a group has from 1 to 129 words
+size-le : (w : ℕ) → sizeOf w ≤ 129
+unfolding sizeOf
+size-le w = go (eqb (w / 268435456 % 16) 1) (eqb (w / 268435456 % 16) 2)
+  where
+    go : (p q : Bool) → cond p (3 + (w / 65536 % 256 + 3) / 4) (cond q (1 + (w / 256 % 256 + 3) / 4 + (w % 256 + 3) / 4) 1) ≤ 129
+    go true q = omega arith
+    go false true = omega arith
+    go false false = omega arith
+
+pub size-small : (s w : ℕ) → s ≡ sizeOf w → s ≤ 129
+size-small s w e = omega (arith, size-le w)
+
+pub size-pos : (w : ℕ) → 0 < sizeOf w
+unfolding sizeOf
+size-pos w = go (eqb (w / 268435456 % 16) 1) (eqb (w / 268435456 % 16) 2)
+  where
+    go : (p q : Bool) → 0 < cond p (3 + (w / 65536 % 256 + 3) / 4) (cond q (1 + (w / 256 % 256 + 3) / 4 + (w % 256 + 3) / 4) 1)
+    go true q = omega arith
+    go false true = omega arith
+    go false false = omega arith
+
+-- r is the head places from i to the end of the list: what a scan has before it
+pub record Rest (t : List ℕ) (i : ℕ) (r : List ℕ) : Type 0 where
+  pub most : ℕ
+  pub enough : length t ≤ i + most
+  pub is : r ≡ headsFrom t i most
+
+pub rest-all : (t : List ℕ) → Rest t 0 (heads t)
+rest-all t = record { most = length t; enough = omega arith; is = refl }
+
+pub rest-end : (t : List ℕ) (i : ℕ) (r : List ℕ) → Rest t i r → length t ≤ i → r ≡ []
+unfolding headsFrom
+rest-end t i r h l = h .is ∙ go (h .most)
+  where
+    go : (n : ℕ) → headsFrom t i n ≡ []
+    go zero = refl
+    go (suc n) = simp (le-ltb i (length t) l)
+
+-- the next head, and what is left behind it
+pub record Next (t : List ℕ) (i : ℕ) (r : List ℕ) : Type 0 where
+  pub left : List ℕ
+  pub here : r ≡ i ∷ left
+  pub then : Rest t (i + sizeOf (word t i)) left
+
+pub rest-next : (t : List ℕ) (i : ℕ) (r : List ℕ) → Rest t i r → i < length t → Next t i r
+unfolding headsFrom
+rest-next t i r h l = go (h .most) (h .enough) (h .is)
+  where
+    go : (n : ℕ) → length t ≤ i + n → r ≡ headsFrom t i n → Next t i r
+    go zero k e = absurd (omega arith)
+    go (suc n) k e = record {
+      left = headsFrom t (i + sizeOf (word t i)) n;
+      here = e ∙ simp (lt-ltb i (length t) l);
+      then = record { most = n; enough = omega (arith, size-pos (word t i)); is = refl };
+    }
