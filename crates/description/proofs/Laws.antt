@@ -1,14 +1,16 @@
 -- Laws of the rules: the loops of good_name and check. Assumes nothing.
-use Prim.Native.Nat.{ℕ, zero, suc, _+_, _-_, _*_, _/_, _%_, _^_, _≤_, _<_}
-use mathlib.Core.Path.{_≡_, refl, sym, ap, _∙_, subst}
+use Prim.Native.Nat.{ℕ, _+_, _-_, _≤_, _<_}
+use mathlib.Core.Path.{_≡_, refl, sym, ap, _∙_}
 use mathlib.Core.List.{List, [], _∷_}
-use mathlib.Core.Bool.{Bool, true, false, cond, _&&_}
+use mathlib.Core.Bool.{Bool, true, false, cond, false≢true}
 use native.Mathlib.Omega.{arith}
+use lib.Dec.{eqb}
 use lib.ListN.{length}
-use Rattle.refusal.specs.Outcome.{Outcome, refused, value}
-use Rattle.layout.specs.Layout.{word, byteAt, sizeOf, heads}
+use borrow.Author.Tests.{eqb-true}
+use Rattle.refusal.specs.Outcome.{refused, value}
+use Rattle.layout.specs.Layout.{word, kind, byteAt, sizeOf, heads}
 use Rattle.layout.proofs.Laws.{one-less, Rest, rest-all, rest-next, rest-end}
-use Rattle.description.specs.Rules.{goodByte, goodBytes, goodGroup, firstBad}
+use Rattle.description.specs.Rules.{goodByte, goodBytes, goodRegister, goodGroup, firstBad}
 
 -- the loop of good_name: byte j is good, or not, or there is none
 module _ (t : List ℕ) (p n j m : ℕ) where
@@ -57,3 +59,26 @@ module _ (t : List ℕ) (i : ℕ) (h : Checking t i) where
 
   pub check-end : length t ≤ i → firstBad (goodGroup t) (heads t) ≡ value tt
   check-end l = to _ (rest-end t i (h .0) (h .1) l) ∙ bad-none (goodGroup t)
+
+-- why a field needs no more than a place above 0: the first group of a list that is well formed is a register
+good-front : (g : ℕ → Bool) (i : ℕ) (r : List ℕ) → firstBad g (i ∷ r) ≡ value tt → g i ≡ true
+unfolding firstBad
+good-front g i r e = go (g i) e
+  where
+    go : (x : Bool) → cond x (firstBad g r) (refused 3 (i ∷ [])) ≡ value tt → x ≡ true
+    go true h = refl
+    go false h = let z : _≡_ {A = ℕ} 0 1 = cc in absurd (omega arith)
+
+not-field : (t : List ℕ) → goodGroup t 0 ≡ true → kind (word t 0) ≡ 1
+unfolding goodGroup
+not-field t e = go (eqb (kind (word t 0)) 1) (eqb (kind (word t 0)) 2) refl e
+  where
+    go : (x y : Bool) → eqb (kind (word t 0)) 1 ≡ x → cond x (goodRegister t 0) (cond y false false) ≡ true → kind (word t 0) ≡ 1
+    go true y k h = eqb-true _ _ k
+    go false true k h = absurd (false≢true h)
+    go false false k h = absurd (false≢true h)
+
+pub first-is-register : (t : List ℕ) → firstBad (goodGroup t) (heads t) ≡ value tt → 0 < length t → kind (word t 0) ≡ 1
+first-is-register t a l =
+    let n = rest-next t 0 (heads t) (rest-all t) l in
+    not-field t (good-front (goodGroup t) 0 (n .left) (ap (λ (z : List ℕ). firstBad (goodGroup t) z) (sym (n .here)) ∙ a))

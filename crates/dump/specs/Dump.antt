@@ -25,13 +25,6 @@ unfoldable pub recordsOf : List (List ℕ) → List Register
 recordsOf [] = []
 recordsOf (l ∷ ls) = withRecord (meaning l) (recordsOf ls)
 
--- the words of lines' records, in the lines' order
-unfoldable pub fileWords : List (List ℕ) → List ℕ
-fileWords ls = words (map groupOf (recordsOf ls))
-
-unfoldable pub lineWords : List ℕ → List ℕ
-lineWords l = fileWords (l ∷ [])
-
 abbrev pub offset : Register → ℕ
 offset r = r .offset
 
@@ -46,11 +39,11 @@ dumpWords s = words (map groupOf (recordsIn s))
 unfoldable pub wordsNeeded : List ℕ → ℕ
 wordsNeeded s = 4 * length (recordsOf (lines s))
 
--- a byte above 127 is 1, with its place; too little room is 2, with the words needed; else the number of records
+-- by the words of room in each: a byte above 127 is 1, with its place; too little room is 2, with the words needed; else the number of records
 unfoldable pub dumpAnswer : List ℕ → ℕ → ℕ → Outcome ℕ
-dumpAnswer s scratch output =
+dumpAnswer s inScratch inOutput =
     cond (ltb (placeFrom isHigh s 0) (length s)) (refused 1 (placeFrom isHigh s 0 ∷ []))
-    (cond (ltb scratch (wordsNeeded s) || ltb output (wordsNeeded s)) (refused 2 (wordsNeeded s ∷ []))
+    (cond (ltb inScratch (wordsNeeded s) || ltb inOutput (wordsNeeded s)) (refused 2 (wordsNeeded s ∷ []))
     (value (length (recordsOf (lines s)))))
 
 -- after a refusal the scratch is as it was, else all of it is 0

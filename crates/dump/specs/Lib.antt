@@ -1,3 +1,4 @@
 pub mod Dump
 pub mod Group
 pub mod Sort
+pub mod Work

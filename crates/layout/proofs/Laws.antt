@@ -1,12 +1,12 @@
 -- Laws of the groups: bit fields, bytes, sizes, and what a scan over the heads has before it. Assumes nothing.
-use Prim.Native.Nat.{ℕ, zero, suc, _+_, _-_, _*_, _/_, _%_, _^_, _≤_, _<_}
-use mathlib.Core.Path.{_≡_, refl, sym, ap, _∙_, subst}
+use Prim.Native.Nat.{ℕ, zero, suc, _+_, _-_, _/_, _%_, _^_, _≤_, _<_}
+use mathlib.Core.Path.{_≡_, refl, sym, ap, _∙_}
 use mathlib.Core.List.{List, [], _∷_}
 use mathlib.Core.Bool.{Bool, true, false, cond}
 use native.Mathlib.Omega.{arith}
 use native.Mathlib.Nat.{mod-lt, div-one, sub-zero, zero-div}
 use lib.ListN.{length, List·getD-eq-default}
-use lib.Dec.{eqb}
+use lib.Dec.{ltb, eqb}
 use borrow.Author.Tests.{lt-ltb, le-ltb}
 use Rattle.util.specs.Bits.{bitsOf}
 use Rattle.layout.specs.Layout.{bits, low, word, byteAt, sizeOf, headsFrom, heads}
@@ -90,3 +90,16 @@ rest-next t i r h l = go (h .most) (h .enough) (h .is)
       here = e ∙ simp (lt-ltb i (length t) l);
       then = record { most = n; enough = omega (arith, size-pos (word t i)); is = refl };
     }
+
+-- two scans that stand at one place have the same before them
+same-heads : (t : List ℕ) (n m i : ℕ) → length t ≤ i + n → length t ≤ i + m → headsFrom t i n ≡ headsFrom t i m
+unfolding headsFrom
+same-heads t zero zero i p q = refl
+same-heads t zero (suc m) i p q = simp (le-ltb i (length t) (omega arith))
+same-heads t (suc n) zero i p q = simp (le-ltb i (length t) (omega arith))
+same-heads t (suc n) (suc m) i p q =
+    ap (λ (z : List ℕ). cond (ltb i (length t)) (i ∷ z) [])
+    (same-heads t n m (i + sizeOf (word t i)) (omega (arith, size-pos (word t i))) (omega (arith, size-pos (word t i))))
+
+pub rest-same : (t : List ℕ) (i : ℕ) (r s : List ℕ) → Rest t i r → Rest t i s → r ≡ s
+rest-same t i r s h k = h .is ∙ same-heads t (h .most) (k .most) i (h .enough) (k .enough) ∙ sym (k .is)

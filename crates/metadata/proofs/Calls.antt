@@ -3,13 +3,13 @@ use Prim.Native.Nat.{ℕ, _+_, _-_, _/_, _%_}
 use mathlib.Core.Path.{_≡_, refl, sym, ap, _∙_}
 use mathlib.Core.List.{List, [], _∷_}
 use mathlib.Core.Bool.{Bool, true, false}
-use mathlib.Core.Option.{Option, none, some}
+use mathlib.Core.Option.{none, some}
 use native.Mathlib.Omega.{arith}
-use lib.ListN.{length, take, drop}
-use Rattle.refusal.specs.Outcome.{Outcome, refused, value, bind}
+use lib.ListN.{take, drop}
+use Rattle.refusal.specs.Outcome.{refused, value, bind}
 use Rattle.util.specs.Bits.{bitsOf}
 use Rattle.layout.specs.Layout.{word}
-use Rattle.layout.specs.Description.{Description, described, fieldsBehind, descriptionsOf}
+use Rattle.layout.specs.Description.{described, fieldsBehind, descriptionsOf}
 use Rattle.description.specs.Rules.{checkOf, readDescriptions, checkedOutcome}
 use Rattle.description.specs.declared.Checked.{Checked}
 use Rattle.description.specs.declared.Checked.the-variants.{WellFormed, Refused}

@@ -1,4 +1,5 @@
 pub mod Places
 pub mod Calls
-pub mod Accepted
+pub mod Named
+pub mod Order
 pub mod OwnTable

@@ -1,20 +1,58 @@
--- Our descriptions: the words are accepted and are the table of the document. Assumes nothing.
+-- Our descriptions: the words are accepted and are the table of the document; and some answers over them. Assumes nothing.
+use Prim.Native.Nat.{ℕ}
 use mathlib.Core.Path.{_≡_, refl}
-use mathlib.Core.List.{List, [], _∷_, _++_}
-use mathlib.Core.Option.{Option, none, some}
-use Rattle.refusal.specs.Outcome.{Outcome, refused, value, bind}
+use mathlib.Core.List.{[], _∷_, _++_}
+use mathlib.Core.Option.{none, some}
+use Rattle.refusal.specs.Outcome.{refused, value, bind}
 use Rattle.util.specs.Bits.{bitsOf}
 use Rattle.layout.specs.Layout.{byteAt, bytesFrom, nameBytes, sizeOf, headsFrom, keep, isRegister, registers}
 use Rattle.layout.specs.Description.{had, fieldOf, fieldsOf, fieldsBehind, described, descriptionsOf}
 use Rattle.description.specs.Rules.{goodByte, goodBytes, goodName, zeroUnless, goodHead, goodRange, whole, goodRegister, goodField, goodGroup, firstBad, checkOf, readDescriptions}
 use Rattle.naming.specs.Naming.{is, isNone, kindFits, capFits, vsFits, fits, only, naming, placeOf}
+use Rattle.naming.specs.declared.Sought.{Sought}
 use Rattle.fields.specs.Names.{lower, alike, fieldIs, findField}
-use Rattle.metadata.specs.Calls.{describeAnswer, at, valueIn, fieldIn, fieldAnswer}
+use Rattle.metadata.specs.Calls.{at, valueIn, fieldIn}
 use Rattle.metadata.specs.Ours.{bytesOf, bitsNamed, plain, capped, ours, oursWords}
 
 pub ours-read : readDescriptions oursWords ≡ value ours
-unfolding
-    byteAt bytesFrom nameBytes sizeOf headsFrom keep isRegister registers had fieldOf fieldsOf fieldsBehind described descriptionsOf
-    goodByte goodBytes goodName zeroUnless goodHead goodRange whole goodRegister goodField goodGroup firstBad checkOf readDescriptions bind
-    bytesOf bitsNamed plain capped ours
+unfolding byteAt bytesFrom nameBytes sizeOf headsFrom keep isRegister registers had fieldOf fieldsOf fieldsBehind described descriptionsOf goodByte goodBytes goodName zeroUnless goodHead goodRange whole goodRegister goodField goodGroup firstBad checkOf readDescriptions bind bytesOf bitsNamed plain capped ours
 ours-read = refl
+
+-- a field cut off behind them is refused at its head
+cut-off : checkOf (oursWords ++ (536871168 ∷ [])) ≡ refused 3 (91 ∷ [])
+unfolding byteAt sizeOf headsFrom goodByte goodBytes goodName zeroUnless goodHead goodRange whole goodRegister goodField goodGroup firstBad checkOf
+cut-off = refl
+
+-- a register under cap id 4 at relative offset 0 of an adapter of a kind
+capFour : ℕ → Sought
+capFour kind = record { space = 1; kind = kind; offset = 0; cap = 4; vs = 0 }
+
+-- of a PCIe Down adapter it is ADP_PCIE_CS_0; of a lane it is nameless, and of both where the description stands twice
+pcie : placeOf (naming (capFour 6) ours) ≡ some 53
+unfolding capFour is isNone kindFits capFits vsFits fits only naming placeOf keep bitsNamed plain capped ours
+pcie = refl
+
+lane : placeOf (naming (capFour 2) ours) ≡ none
+unfolding capFour is isNone kindFits capFits vsFits fits only naming placeOf keep bitsNamed plain capped ours
+lane = refl
+
+twice : placeOf (naming (capFour 6) (ours ++ ours)) ≡ none
+unfolding capFour is isNone kindFits capFits vsFits fits only naming placeOf keep bitsNamed plain capped ours
+twice = refl
+
+-- Max Adapter of 0xc300, and bits 11 to 16 of 0x80000808, in any case; a field of the next register, and a place inside a group
+max-adapter : fieldIn 0xc300 (bytesOf "max ADAPTER") (at 0 ours) ≡ value 3
+unfolding bitsOf lower alike fieldIs findField at valueIn fieldIn bytesOf bitsNamed plain capped ours
+max-adapter = refl
+
+out-adapter : fieldIn 0x80000808 (bytesOf "Output adapter") (at 73 ours) ≡ value 1
+unfolding bitsOf lower alike fieldIs findField at valueIn fieldIn bytesOf bitsNamed plain capped ours
+out-adapter = refl
+
+of-next : fieldIn 0xffffffff (bytesOf "V") (at 53 ours) ≡ refused 6 []
+unfolding bitsOf lower alike fieldIs findField at valueIn fieldIn bytesOf bitsNamed plain capped ours
+of-next = refl
+
+inside : fieldIn 0xffffffff (bytesOf "PE") (at 54 ours) ≡ refused 6 []
+unfolding bitsOf lower alike fieldIs findField at valueIn fieldIn bytesOf bitsNamed plain capped ours
+inside = refl

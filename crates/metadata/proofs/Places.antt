@@ -5,26 +5,26 @@ use mathlib.Core.List.{List, [], _∷_, map}
 use mathlib.Core.Bool.{Bool, true, false, cond, _&&_, false≢true}
 use mathlib.Core.Option.{Option, none, some}
 use native.Mathlib.Omega.{arith}
-use native.Mathlib.Decide.{decLt, ℕ-discrete}
-use lib.Dec.{ltb, leb, eqb}
+use native.Mathlib.Decide.{ℕ-discrete}
+use lib.Dec.{ltb, leb}
 use lib.ListN.{length}
-use borrow.Author.Tests.{lt-ltb, le-ltb, eq-eqb, ne-eqb, ltb-true, leb-true}
-use Rattle.refusal.specs.Outcome.{Outcome, refused, value}
+use borrow.Author.Tests.{eq-eqb, ne-eqb, ltb-true, leb-true}
+use Rattle.refusal.specs.Outcome.{refused, value}
 use Rattle.layout.specs.Layout.{word, sizeOf, headsFrom, heads, keep, isRegister, registers}
 use Rattle.layout.specs.Description.{Description, described, descriptionsOf}
 use Rattle.description.specs.Rules.{maxWords, goodName, whole, goodHead, goodRegister, goodGroup, firstBad, checkOf}
-use Rattle.layout.proofs.Laws.{Rest, rest-all, rest-next, rest-end, size-pos}
+use Rattle.layout.proofs.Laws.{Rest, rest-all, rest-next, size-pos}
 use Rattle.metadata.specs.Calls.{at, standing}
 
 -- the description at a place, among the registers of some head places
 abbrev pub among : List ℕ → ℕ → List ℕ → Option Description
 among t p r = at p (map (described t) (keep (isRegister t) r))
 
-among-nil : (t : List ℕ) (p : ℕ) → among t p [] ≡ none
+pub among-nil : (t : List ℕ) (p : ℕ) → among t p [] ≡ none
 unfolding keep at
 among-nil t p = refl
 
-among-other : (t : List ℕ) (p i : ℕ) (r : List ℕ) → (i ≡ p → ⊥) → among t p (i ∷ r) ≡ among t p r
+pub among-other : (t : List ℕ) (p i : ℕ) (r : List ℕ) → (i ≡ p → ⊥) → among t p (i ∷ r) ≡ among t p r
 unfolding keep at described
 among-other t p i r n = go (isRegister t i)
   where
@@ -56,7 +56,7 @@ past t p i r h l = ap (λ z. among t p z) (h .is) ∙ among-past t p (h .most) i
 abbrev pub Seeking : List ℕ → ℕ → ℕ → Type 0
 Seeking t p i = (r : List ℕ) × Rest t i r × (at p (descriptionsOf t) ≡ among t p r)
 
-at-heads : (t : List ℕ) (p : ℕ) → at p (descriptionsOf t) ≡ among t p (heads t)
+pub at-heads : (t : List ℕ) (p : ℕ) → at p (descriptionsOf t) ≡ among t p (heads t)
 unfolding descriptionsOf registers
 at-heads t p = refl
 
@@ -101,11 +101,11 @@ pub seek-short : (t : List ℕ) (p : ℕ) → length t ≤ p → at p (descripti
 seek-short t p l = at-heads t p ∙ among-short t p (length t) 0 l ∙ no-standing t p
 
 -- in words that are well formed a register group is whole
-both : (x y : Bool) → (x && y) ≡ true → (x ≡ true) × (y ≡ true)
+pub both : (x y : Bool) → (x && y) ≡ true → (x ≡ true) × (y ≡ true)
 both true y e = (refl, e)
 both false y e = absurd (false≢true e)
 
-good-front : (g : ℕ → Bool) (i : ℕ) (r : List ℕ) → firstBad g (i ∷ r) ≡ value tt → (g i ≡ true) × (firstBad g r ≡ value tt)
+pub good-front : (g : ℕ → Bool) (i : ℕ) (r : List ℕ) → firstBad g (i ∷ r) ≡ value tt → (g i ≡ true) × (firstBad g r ≡ value tt)
 unfolding firstBad
 good-front g i r e = go (g i) e
   where
@@ -121,7 +121,7 @@ good-among t g p d (i ∷ r) a e = go (ℕ-discrete i p) (good-front g i r a) (g
     go (yes q) h ih = subst (λ z. g z ≡ true) q (h .0)
     go (no q) h ih = ih (h .1) (sym (among-other t p i r q) ∙ e)
 
-check-good : (t : List ℕ) → checkOf t ≡ value tt → firstBad (goodGroup t) (heads t) ≡ value tt
+pub check-good : (t : List ℕ) → checkOf t ≡ value tt → firstBad (goodGroup t) (heads t) ≡ value tt
 unfolding checkOf
 check-good t a = go (ltb maxWords (length t)) a
   where

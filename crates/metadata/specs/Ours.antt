@@ -3,7 +3,7 @@ use Prim.Native.Nat.{ℕ, _+_, _^_}
 use Prim.Native.Char.{code}
 use Prim.Native.String.{String, [] as end-of-text, _∷_ as _then_}
 use mathlib.Core.List.{List, [], _∷_}
-use mathlib.Core.Option.{Option, none, some}
+use mathlib.Core.Option.{none, some}
 use Rattle.layout.specs.Description.{Field, Description}
 
 unfoldable pub bytesOf : String → List ℕ

@@ -3,13 +3,13 @@ use Prim.Native.Nat.{ℕ, _+_, _/_, _%_, _≤_, _<_}
 use mathlib.Core.Path.{_≡_, refl, sym, ap, _∙_}
 use mathlib.Core.List.{List, [], _∷_, map}
 use mathlib.Core.Bool.{Bool, true, false, cond, _&&_}
-use mathlib.Core.Option.{Option, none, some}
+use mathlib.Core.Option.{Option}
 use native.Mathlib.Omega.{arith}
 use lib.Dec.{ltb, eqb}
 use lib.ListN.{length}
 use borrow.Author.Tests.{lt-ltb, le-ltb, eq-eqb, ne-eqb}
 use Rattle.layout.specs.Layout.{word, hasCap, hasVs, capId, vsId, listed, kinds, sizeOf, heads, keep, isRegister, registers}
-use Rattle.layout.specs.Description.{Description, had, described, descriptionsOf}
+use Rattle.layout.specs.Description.{had, described, descriptionsOf}
 use Rattle.layout.proofs.Laws.{Rest, rest-all, rest-next, rest-end}
 use Rattle.naming.specs.Naming.{is, kindFits, capFits, vsFits, fits, only, naming, placeOf, foundPlace, candidate}
 use Rattle.naming.specs.declared.Sought.{Sought}

@@ -6,14 +6,14 @@ use Rattle.refusal.specs.declared.Site.{Site}
 use Rattle.refusal.specs.declared.Fault.{Fault}
 use Rattle.refusal.specs.declared.Fault.the-variants.{FewRegisters, NoField, BadAdapters, GenTOffset, NoPathDump, NoOutAdapter, NoParentRoute, NoDownstreamRoute, Endless}
 
--- 5 to 12 come with device place and adapter number
+-- 5 to 12 come with device place and adapter number, which is always 0 for 7
 unfoldable pub at : Site → List ℕ
 at s = s .place ∷ s .adapter ∷ []
 
 unfoldable pub refusalOf : {A : Type 0} → Fault → Outcome A
 refusalOf (FewRegisters s) = refused 5 (at s)
 refusalOf (NoField s) = refused 6 (at s)
-refusalOf (BadAdapters s) = refused 7 (at s)
+refusalOf (BadAdapters p) = refused 7 (p ∷ 0 ∷ [])
 refusalOf (GenTOffset s) = refused 8 (at s)
 refusalOf (NoPathDump s) = refused 9 (at s)
 refusalOf (NoOutAdapter s) = refused 10 (at s)

@@ -1,4 +1,4 @@
-// Where a fault was met: a device by its place in the survey and an adapter by its number, 0 for the router itself or an xdomain.
+// Where a fault was met: a device by its place in the survey and an adapter by its number; 0 for the router itself and an xdomain, and the missing number for a missing out adapter.
 pub struct Site {
     pub place: usize,
     pub adapter: u8,
@@ -10,8 +10,8 @@ pub enum Fault {
     FewRegisters(Site),
     // A field is wanted of a named register that lacks it, a flag isn't one bit, or a flag is wanted of a nameless register.
     NoField(Site),
-    // Adapters under a device that isn't a router or has no ROUTER_CS_1, or not exactly 1 to Max Adapter in order.
-    BadAdapters(Site),
+    // Adapters under a device that isn't a router or has no ROUTER_CS_1, or not exactly 1 to Max Adapter in order. The device's place alone.
+    BadAdapters(usize),
     // A Gen T offset passes 65,535.
     GenTOffset(Site),
     // The path dump is missing and the adapter is no lane 1.

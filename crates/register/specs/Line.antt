@@ -27,10 +27,10 @@ max32 = 0xffffffff
 unfoldable pub isComment : List ℕ → Bool
 isComment s = eqb (getD s 0 0) 35
 
--- token k as a number that the rest goes on with; the first that is none ends the line
-unfoldable pub token : ℕ → Number → (ℕ → Met) → Met
-token k number.None rest = met.Skipped (Bad k)
-token k (number.Value v) rest = rest v
+-- withToken k as a number that the rest goes on with; the first that is none ends the line
+unfoldable pub withToken : ℕ → Number → (ℕ → Met) → Met
+withToken k number.None rest = met.Skipped (Bad k)
+withToken k (number.Value v) rest = rest v
 
 unfoldable pub registerOf : ℕ → ℕ → ℕ → ℕ → ℕ → Register
 registerOf o r c v x = record { offset = o; «relative_offset» = r; «cap_id» = c; «vs_cap_id» = v; value = x }
@@ -38,22 +38,22 @@ registerOf o r c v x = record { offset = o; «relative_offset» = r; «cap_id» 
 -- four tokens: offset, relative offset, one that is ignored, value
 unfoldable pub fourTokens : List ℕ → List ℕ → List ℕ → Met
 fourTokens a b d =
-    token 0 (hexNumber max16 a)
-    (λ offset. token 1 (decimalNumber max16 b)
-    (λ relative. token 3 (hexNumber max32 d)
-    (λ value. met.Record (registerOf offset relative 0 0 value))))
+    withToken 0 (hexNumber max16 a)
+    (λ offset. withToken 1 (decimalNumber max16 b)
+    (λ relative. withToken 3 (hexNumber max32 d)
+    (λ v. met.Record (registerOf offset relative 0 0 v))))
 
 -- five or more: offset, relative offset, cap id, vs id, value, the rest ignored
 unfoldable pub fiveTokens : List ℕ → List ℕ → List ℕ → List ℕ → List ℕ → Met
 fiveTokens a b c d e =
-    token 0 (hexNumber max16 a)
-    (λ offset. token 1 (decimalNumber max16 b)
-    (λ relative. token 2 (hexNumber max16 c)
-    (λ cap. token 3 (hexNumber max16 d)
-    (λ vs. token 4 (hexNumber max32 e)
-    (λ value. met.Record (registerOf offset relative cap vs value))))))
+    withToken 0 (hexNumber max16 a)
+    (λ offset. withToken 1 (decimalNumber max16 b)
+    (λ relative. withToken 2 (hexNumber max16 c)
+    (λ cap. withToken 3 (hexNumber max16 d)
+    (λ vs. withToken 4 (hexNumber max32 e)
+    (λ v. met.Record (registerOf offset relative cap vs v))))))
 
--- by the tokens of a line that is no comment; token k is empty where there are not so many
+-- by the tokens of a line that is no comment
 unfoldable pub byTokens : List (List ℕ) → Met
 byTokens ts =
     cond (ltb (length ts) 4) (met.Skipped Few)

@@ -1,6 +1,7 @@
 ghost use mathlib.Core.Path.{_≡_};
 ghost use Prim.Native.Nat.{_*_, _<_, _^_};
 ghost use Rattle.route.specs.Route.{depthOf, upstreamRoute, downstreamRoute, downstreamAdapter};
+use usb4::ROUTE_SHIFT;
 
 // A route, or none.
 pub enum RouteFound {
@@ -35,7 +36,7 @@ fn unit(depth: u32) -> u64
     requires { ⌜ depth < 8 ⌝ }
     ensures { λ r. ⌜ r ≡ 2 ^ (8 * depth) ⌝ }
 {
-    1u64 << (8 * depth)
+    1u64 << (ROUTE_SHIFT * depth)
 }
 
 // The route of the router before the last; none at depth 0, where the Rust's subtraction overflows.

@@ -25,7 +25,7 @@ unfoldable pub before : (ℕ → Bool) → List ℕ → ℕ
 before p [] = 0
 before p (b ∷ s) = cond (p b) 0 (suc (before p s))
 
--- the first place from i on that holds a byte of p, or the end
+-- the first place from i on that holds a byte of p, or the end; i itself where i is past the end
 unfoldable pub placeFrom : (ℕ → Bool) → List ℕ → ℕ → ℕ
 placeFrom p s i = i + before p (drop i s)
 

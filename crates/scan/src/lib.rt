@@ -26,7 +26,7 @@ fn is_space(b: u8) -> bool
     b == 32
 }
 
-// The first place from `at` on that holds a separator, or the end.
+// The first place from `at` on that holds a separator, or the end; `at` itself past the end.
 fn token_end(s: &[u8], at: usize) -> usize
     ensures { λ r. ⌜ r ≡ placeFrom isSpace (now (s .entry)) at ⌝ }
 {
@@ -40,7 +40,7 @@ fn token_end(s: &[u8], at: usize) -> usize
     i
 }
 
-// The first place from `at` on that holds no separator, or the end.
+// The first place from `at` on that holds no separator, or the end; `at` itself past the end.
 fn token_start(s: &[u8], at: usize) -> usize
     ensures { λ r. ⌜ r ≡ placeFrom (isNot isSpace) (now (s .entry)) at ⌝ }
 {
@@ -63,7 +63,7 @@ pub fn token(s: &[u8], at: usize) -> Span
     Span { start, end }
 }
 
-// The first place from `at` on that holds LF, or the end.
+// The first place from `at` on that holds LF, or the end; `at` itself past the end.
 pub fn line_end(s: &[u8], at: usize) -> usize
     ensures { λ r. ⌜ r ≡ placeFrom isLineFeed (now (s .entry)) at ⌝ }
 {

@@ -11,6 +11,10 @@ use Rattle.usb4.specs.declared.Speed.the-variants as speed
 use Rattle.usb4.specs.declared.Kind.{Kind}
 use Rattle.usb4.specs.declared.Kind.the-variants as kind
 
+-- a route has eight bits for each router on the way
+abbrev pub routeShift : ℕ
+routeShift = 8
+
 -- adapter types, by bits 0 to 23 of ADP_CS_2
 unfoldable pub typeOf : ℕ → AdapterType
 typeOf code =

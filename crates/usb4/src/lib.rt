@@ -180,7 +180,7 @@ pub fn lane_state(code: u32) -> State
 }
 
 // The link speed by its code.
-pub fn link_speed(code: u32) -> Speed
+pub fn speed_of(code: u32) -> Speed
     ensures { λ r. ⌜ r ≡ speedOf code ⌝ }
 {
     if code == LANE_ADP_CS_1_CURRENT_SPEED_GEN2 {

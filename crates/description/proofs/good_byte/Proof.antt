@@ -1,22 +1,16 @@
-use borrow.Author.Tests.{lt-ltb, le-ltb, le-leb, lt-leb, eq-eqb, ne-eqb, not-true, not-false}
-use mathlib.Core.Path.{_≡_, refl, sym, ap, _∙_}
+use borrow.Author.Tests.{lt-ltb, le-ltb, le-leb, lt-leb}
 use Rattle.description.specs.Rules.{goodByte}
 use Rattle.description.proofs.good_byte.Statement.{statement}
 use Rattle.description.proofs.good_byte.Tie as tie
-use Rattle.description.proofs.good_byte.Reads as reads
-use Rattle.description.proofs.good_byte.Lts as lts
 
--- src/lib.rt:77:9
 returns : tie.Need-returns
 unfolding goodByte
 returns c = simp (le-ltb _ _ (c .if1 .taken))
 
--- src/lib.rt:80:9
 returns-2 : tie.Need-returns-2
 unfolding goodByte
 returns-2 c = simp (lt-ltb _ _ (c .before .if1 .left), lt-leb _ _ (c .if2 .taken))
 
--- src/lib.rt:73:1
 returns-3 : tie.Need-returns-3
 unfolding goodByte
 returns-3 c = simp (lt-ltb _ _ (c .before .if1 .left), le-leb _ _ (c .if2 .left))

@@ -1,75 +1,54 @@
-use borrow.Author.Tests.{lt-ltb, le-ltb, le-leb, lt-leb, eq-eqb, ne-eqb, not-true, not-false}
-use mathlib.Core.Path.{_≡_, refl, sym, ap, _∙_}
+use borrow.Author.Tests.{le-leb, lt-leb, not-true, not-false}
+use mathlib.Core.Path.{sym}
 use native.Mathlib.Omega.{arith}
 use borrow.Author.Needs.{needs}
 use Rattle.layout.proofs.Laws as groups
 use Rattle.description.specs.Rules.{goodField, whole}
 use Rattle.description.proofs.good_field.Statement.{statement}
 use Rattle.description.proofs.good_field.Tie as tie
-use Rattle.description.proofs.good_field.Reads as reads
-use Rattle.description.proofs.good_field.Lts as lts
-use Rattle.description.proofs.good_name.Reads as good-name-reads
-use Rattle.description.proofs.good_range.Reads as good-range-reads
-use Rattle.layout.proofs.group_size.Reads as group-size-reads
-use Rattle.layout.proofs.name_words.Reads as name-words-reads
-use Rattle.layout.proofs.word_at.Reads as word-at-reads
 
--- src/lib.rt:173:9
 word-at-requires : tie.Need-word-at-requires
 word-at-requires c κs = search needs
 
--- src/lib.rt:174:9
 good-range-requires : tie.Need-good-range-requires
 good-range-requires c κs = search needs
 
--- src/lib.rt:175:9
 returns : tie.Need-returns
 unfolding goodField whole
 returns c = simp (sym (c .before .before .word-at .ensures), sym (c .before .good-range .ensures), not-true (c .before .good-range .result) (c .if1 .taken))
 
--- src/lib.rt:177:22
 group-size-requires : tie.Need-group-size-requires
 group-size-requires c κs = search needs
 
--- src/lib.rt:177:18
 add-end : tie.Need-add-end
 add-end c = omega (arith, groups.size-small _ _ (c .group-size .ensures))
 
--- src/lib.rt:178:9
 returns-2 : tie.Need-returns-2
 unfolding goodField whole
 returns-2 c = simp (sym (c .before .before .before .before .word-at .ensures), sym (c .before .before .before .good-range .ensures), not-false (c .before .before .before .good-range .result) (c .before .before .if1 .left), sym (c .before .group-size .ensures), lt-leb _ _ (c .if2 .taken))
 
--- src/lib.rt:181:22
 add-good-name : tie.Need-add-good-name
 add-good-name c = search needs
 
--- src/lib.rt:181:9
 good-name-requires : tie.Need-good-name-requires
 good-name-requires c κs = search needs
 
--- src/lib.rt:182:9
 returns-3 : tie.Need-returns-3
 unfolding goodField whole
 returns-3 c = simp (sym (c .before .before .before .before .before .before .word-at .ensures), sym (c .before .before .before .before .before .good-range .ensures), not-false (c .before .before .before .before .before .good-range .result) (c .before .before .before .before .if1 .left), sym (c .before .before .before .group-size .ensures), le-leb _ _ (c .before .before .if2 .left), sym (c .before .good-name .ensures), not-true (c .before .good-name .result) (c .if3 .taken))
 
--- src/lib.rt:184:18
 add-good-name-2 : tie.Need-add-good-name-2
 add-good-name-2 c = search needs
 
--- src/lib.rt:184:26
 name-words-requires : tie.Need-name-words-requires
 name-words-requires c κs = search needs
 
--- src/lib.rt:184:18
 add-good-name-3 : tie.Need-add-good-name-3
 add-good-name-3 c = search needs
 
--- src/lib.rt:184:5
 good-name-requires-2 : tie.Need-good-name-requires-2
 good-name-requires-2 c κs = search needs
 
--- src/lib.rt:169:1
 returns-4 : tie.Need-returns-4
 unfolding goodField whole
 returns-4 c = simp (sym (c .before .before .before .before .before .before .before .before .word-at .ensures), sym (c .before .before .before .before .before .before .before .good-range .ensures), not-false (c .before .before .before .before .before .before .before .good-range .result) (c .before .before .before .before .before .before .if1 .left), sym (c .before .before .before .before .before .group-size .ensures), le-leb _ _ (c .before .before .before .before .if2 .left), sym (c .before .before .before .good-name .ensures), not-false (c .before .before .before .good-name .result) (c .before .before .if3 .left), sym (c .before .name-words .ensures), sym (c .good-name2 .ensures))

@@ -1,56 +1,43 @@
 use borrow.Author.Tests.{lt-ltb, le-ltb, le-leb, lt-leb, eq-eqb, ne-eqb, not-true, not-false}
-use mathlib.Core.Path.{_≡_, refl, sym, ap, _∙_}
+use mathlib.Core.Path.{sym}
 use Rattle.description.specs.Rules.{goodHead}
 use borrow.Author.Needs.{needs}
 use Rattle.description.proofs.good_head.Statement.{statement}
 use Rattle.description.proofs.good_head.Tie as tie
-use Rattle.description.proofs.good_head.Reads as reads
-use Rattle.description.proofs.good_head.Lts as lts
-use Rattle.description.proofs.zero_unless.Reads as zero-unless-reads
 
--- src/lib.rt:116:9
 returns : tie.Need-returns
 unfolding goodHead
 returns c = simp (le-ltb _ _ (c .if1 .taken))
 
--- src/lib.rt:119:9
 returns-2 : tie.Need-returns-2
 unfolding goodHead
 returns-2 c = simp (lt-ltb _ _ (c .before .if1 .left), lt-leb _ _ (c .if2 .taken))
 
--- src/lib.rt:122:9
 returns-3 : tie.Need-returns-3
 unfolding goodHead
 returns-3 c = simp (lt-ltb _ _ (c .before .before .if1 .left), le-leb _ _ (c .before .if2 .left), lt-leb _ _ (c .if3 .taken))
 
--- src/lib.rt:124:9
 zero-unless-requires : tie.Need-zero-unless-requires
 zero-unless-requires c κs = search needs
 
--- src/lib.rt:125:9
 returns-4 : tie.Need-returns-4
 unfolding goodHead
 returns-4 c = simp (lt-ltb _ _ (c .before .before .before .before .if1 .left), le-leb _ _ (c .before .before .before .if2 .left), le-leb _ _ (c .before .before .if3 .left), sym (c .before .zero-unless .ensures), not-true (c .before .zero-unless .result) (c .if4 .taken))
 
--- src/lib.rt:127:9
 zero-unless-requires-2 : tie.Need-zero-unless-requires-2
 zero-unless-requires-2 c κs = search needs
 
--- src/lib.rt:128:9
 returns-5 : tie.Need-returns-5
 unfolding goodHead
 returns-5 c = simp (lt-ltb _ _ (c .before .before .before .before .before .before .if1 .left), le-leb _ _ (c .before .before .before .before .before .if2 .left), le-leb _ _ (c .before .before .before .before .if3 .left), sym (c .before .before .before .zero-unless .ensures), not-false (c .before .before .before .zero-unless .result) (c .before .before .if4 .left), sym (c .before .zero-unless2 .ensures), not-true (c .before .zero-unless2 .result) (c .if5 .taken))
 
--- src/lib.rt:131:9
 returns-6 : tie.Need-returns-6
 unfolding goodHead
 returns-6 c = simp (lt-ltb _ _ (c .before .before .before .before .before .before .before .if1 .left), le-leb _ _ (c .before .before .before .before .before .before .if2 .left), le-leb _ _ (c .before .before .before .before .before .if3 .left), sym (c .before .before .before .before .zero-unless .ensures), not-false (c .before .before .before .before .zero-unless .result) (c .before .before .before .if4 .left), sym (c .before .before .zero-unless2 .ensures), not-false (c .before .before .zero-unless2 .result) (c .before .if5 .left), ne-eqb _ _ (c .if6 .taken))
 
--- src/lib.rt:133:5
 zero-unless-requires-3 : tie.Need-zero-unless-requires-3
 zero-unless-requires-3 c κs = search needs
 
--- src/lib.rt:112:1
 returns-7 : tie.Need-returns-7
 unfolding goodHead
 returns-7 c = simp (lt-ltb _ _ (c .before .before .before .before .before .before .before .before .if1 .left), le-leb _ _ (c .before .before .before .before .before .before .before .if2 .left), le-leb _ _ (c .before .before .before .before .before .before .if3 .left), sym (c .before .before .before .before .before .zero-unless .ensures), not-false (c .before .before .before .before .before .zero-unless .result) (c .before .before .before .before .if4 .left), sym (c .before .before .before .zero-unless2 .ensures), not-false (c .before .before .before .zero-unless2 .result) (c .before .before .if5 .left), eq-eqb _ _ (c .before .if6 .left), sym (c .zero-unless3 .ensures))

@@ -1,54 +1,36 @@
-use borrow.Author.Tests.{lt-ltb, le-ltb, le-leb, lt-leb, eq-eqb, ne-eqb, not-true, not-false}
-use mathlib.Core.Path.{_≡_, refl, sym, ap, _∙_}
+use mathlib.Core.Path.{sym, _∙_}
 use borrow.Author.Needs.{needs}
-use Rattle.layout.specs.Description.{fieldOf}
-use Rattle.fields.specs.Names.{fieldIs}
 use Rattle.fields.proofs.Names as names
 use Rattle.fields.proofs.field_is.Statement.{statement}
 use Rattle.fields.proofs.field_is.Tie as tie
-use Rattle.fields.proofs.field_is.Reads as reads
-use Rattle.fields.proofs.field_is.Lts as lts
-use Rattle.layout.proofs.name_words.Reads as name-words-reads
-use Rattle.layout.proofs.word_at.Reads as word-at-reads
-use Rattle.fields.proofs.same_name.Reads as same-name-reads
 
--- src/lib.rt:210:9
 word-at-requires : tie.Need-word-at-requires
 word-at-requires c κs = search needs
 
--- src/lib.rt:212:21
 add-same-name : tie.Need-add-same-name
 add-same-name c = search needs
 
--- src/lib.rt:212:8
 same-name-requires : tie.Need-same-name-requires
 same-name-requires c κs = search needs
 
--- src/lib.rt:213:9
 returns : tie.Need-returns
 returns c = let k = c .before in sym (names.field-by-name _ _ _ _ (k .before .word-at .ensures) (sym (k .same-name .ensures) ∙ c .if1 .taken))
 
--- src/lib.rt:217:9
 returns-2 : tie.Need-returns-2
 returns-2 c = let k = c .before .before in sym (names.field-no-short _ _ _ _ (k .before .word-at .ensures) (sym (k .same-name .ensures) ∙ c .before .if1 .left) (c .if2 .taken))
 
--- src/lib.rt:219:18
 add-same-name-2 : tie.Need-add-same-name-2
 add-same-name-2 c = search needs
 
--- src/lib.rt:219:26
 name-words-requires : tie.Need-name-words-requires
 name-words-requires c κs = search needs
 
--- src/lib.rt:219:18
 add-same-name-3 : tie.Need-add-same-name-3
 add-same-name-3 c = search needs
 
--- src/lib.rt:219:5
 same-name-requires-2 : tie.Need-same-name-requires-2
 same-name-requires-2 c κs = search needs
 
--- src/lib.rt:206:1
 returns-3 : tie.Need-returns-3
 returns-3 c = let j = c .before .before in let k = j .before .before in c .same-name2 .ensures ∙ sym (names.field-by-short _ _ _ _ (k .before .word-at .ensures) (sym (k .same-name .ensures) ∙ j .before .if1 .left) (j .if2 .left) _ (c .before .name-words .ensures))
 

@@ -1,34 +1,23 @@
-use borrow.Author.Tests.{lt-ltb, le-ltb, le-leb, lt-leb, eq-eqb, ne-eqb, not-true, not-false}
-use mathlib.Core.Path.{_≡_, refl, sym, ap, _∙_}
 use Rattle.fields.proofs.Names as names
 use borrow.Author.Needs.{needs}
 use Rattle.fields.proofs.find_flag.Statement.{statement}
 use Rattle.fields.proofs.find_flag.Tie as tie
-use Rattle.fields.proofs.find_flag.Reads as reads
-use Rattle.fields.proofs.find_flag.Lts as lts
-use Rattle.fields.proofs.find_field.Reads as find-field-reads
 
--- src/lib.rt:250:43
 find-field-requires : tie.Need-find-field-requires
 find-field-requires c κs = search needs
 
--- src/lib.rt:250:28
 enum-known-start : tie.Need-enum-known-start
 enum-known-start c = search needs
 
--- src/lib.rt:251:9
 enum-told : tie.Need-enum-told
 enum-told c = search needs
 
--- src/lib.rt:251:9
 returns : tie.Need-returns
 returns c = names.flag-missing _ _ _ (c .before .before .find-field .ensures) (c .enum-told .given .1)
 
--- src/lib.rt:254:9
 returns-2 : tie.Need-returns-2
 returns-2 c = let k = c .before .before in names.flag-wide _ _ _ (k .before .before .find-field .ensures) _ _ (k .start .given .1) (c .if1 .taken)
 
--- src/lib.rt:247:1
 returns-3 : tie.Need-returns-3
 returns-3 c = let k = c .before .before in names.flag-bit _ _ _ (k .before .before .find-field .ensures) _ _ (k .start .given .1) (c .if1 .left)
 

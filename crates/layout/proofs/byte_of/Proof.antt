@@ -1,25 +1,18 @@
 use native.Mathlib.Omega.{arith}
-use Prim.Native.Nat.{ℕ}
 use mathlib.Core.Path.{_≡_}
 use native.Mathlib.Nat.{div-one}
 use Rattle.layout.proofs.byte_of.Statement.{statement}
 use Rattle.layout.proofs.byte_of.Tie as tie
-use Rattle.layout.proofs.byte_of.Reads as reads
-use Rattle.layout.proofs.byte_of.Lts as lts
 
--- src/lib.rt:51:9
 returns : tie.Need-returns
 returns c = rw (c .if1 .taken, div-one)
 
--- src/lib.rt:54:9
 returns-2 : tie.Need-returns-2
 returns-2 c = rw (c .if2 .taken)
 
--- src/lib.rt:57:9
 returns-3 : tie.Need-returns-3
 returns-3 c = rw (c .if3 .taken)
 
--- src/lib.rt:46:1
 returns-4 : tie.Need-returns-4
 returns-4 c = rw (let e : c .before .before .before .args .k ≡ 3 = omega arith in e)
 

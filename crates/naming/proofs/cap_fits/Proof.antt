@@ -1,35 +1,27 @@
 use Rattle.naming.proofs.Naming.{cap-equal}
-use borrow.Author.Tests.{lt-ltb, le-ltb, le-leb, lt-leb, eq-eqb, ne-eqb, not-true, not-false}
-use mathlib.Core.Path.{_≡_, refl, sym, ap, _∙_}
-use borrow.Author.Needs.{needs}
-use Rattle.naming.specs.Naming.{is, isNone, kindFits, capFits, vsFits}
+use borrow.Author.Tests.{eq-eqb, ne-eqb}
+use mathlib.Core.Path.{sym}
+use Rattle.naming.specs.Naming.{is, isNone, capFits}
 use Rattle.layout.specs.Description.{had}
 use Rattle.naming.proofs.cap_fits.Statement.{statement}
 use Rattle.naming.proofs.cap_fits.Tie as tie
-use Rattle.naming.proofs.cap_fits.Reads as reads
-use Rattle.naming.proofs.cap_fits.Lts as lts
 
--- src/lib.rt:71:13
 returns : tie.Need-returns
 unfolding capFits had is isNone
 returns c = simp (eq-eqb _ _ (c .before .if1 .taken), eq-eqb _ _ (c .if2 .taken))
 
--- src/lib.rt:74:13
 returns-2 : tie.Need-returns-2
 unfolding capFits had is isNone
 returns-2 c = simp (eq-eqb _ _ (c .before .before .if1 .taken), ne-eqb _ _ (c .before .if2 .left), eq-eqb _ _ (c .if3 .taken))
 
--- src/lib.rt:76:9
 returns-3 : tie.Need-returns-3
 unfolding capFits had is isNone
 returns-3 c = simp (eq-eqb _ _ (c .before .before .if1 .taken), ne-eqb _ _ (c .before .if2 .left), ne-eqb _ _ (c .if3 .left))
 
--- src/lib.rt:79:9
 returns-4 : tie.Need-returns-4
 unfolding capFits had is isNone
 returns-4 c = simp (ne-eqb _ _ (c .before .if1 .left), ne-eqb _ _ (c .if4 .taken))
 
--- src/lib.rt:66:1
 returns-5 : tie.Need-returns-5
 returns-5 c = sym (cap-equal _ _ _ _ (c .before .if1 .left) (c .if4 .left))
 

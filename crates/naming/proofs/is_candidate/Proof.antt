@@ -1,76 +1,56 @@
-use borrow.Author.Tests.{lt-ltb, le-ltb, le-leb, lt-leb, eq-eqb, ne-eqb, not-true, not-false}
-use mathlib.Core.Path.{_≡_, refl, sym, ap, _∙_}
+use borrow.Author.Tests.{eq-eqb, ne-eqb, not-true, not-false}
+use mathlib.Core.Path.{refl, sym, _∙_}
 use denote.Ref.{now}
 use mathlib.Core.Bool.{true, false}
 use Rattle.naming.proofs.Naming as naming
 use borrow.Author.Needs.{needs}
 use Rattle.naming.proofs.is_candidate.Statement.{statement}
 use Rattle.naming.proofs.is_candidate.Tie as tie
-use Rattle.naming.proofs.is_candidate.Reads as reads
-use Rattle.naming.proofs.is_candidate.Lts as lts
-use Rattle.layout.proofs.word_at.Reads as word-at-reads
-use Rattle.naming.proofs.cap_fits.Reads as cap-fits-reads
-use Rattle.naming.proofs.kind_fits.Reads as kind-fits-reads
-use Rattle.naming.proofs.vs_fits.Reads as vs-fits-reads
 
--- src/lib.rt:102:9
 word-at-requires : tie.Need-word-at-requires
 word-at-requires c κs = search needs
 
--- src/lib.rt:104:9
 returns : tie.Need-returns
 returns c = let a = c .before .before .before .args in
     sym (naming.fit-parts (now (a .t)) (a .q) (a .i) _ _ _ (c .before .word-at .ensures) refl refl false _ _ _ _ _ (ne-eqb _ _ (c .if1 .taken)) refl refl refl refl refl)
 
--- src/lib.rt:107:9
 returns-2 : tie.Need-returns-2
 returns-2 c = let a = c .before .before .before .before .before .args in
     sym (naming.fit-parts (now (a .t)) (a .q) (a .i) _ _ _ (c .before .before .before .word-at .ensures) refl refl true false _ _ _ _ (eq-eqb _ _ (c .before .before .if1 .left)) (ne-eqb _ _ (c .if2 .taken)) refl refl refl refl)
 
--- src/lib.rt:110:9
 returns-3 : tie.Need-returns-3
 returns-3 c = let a = c .before .before .before .before .before .before .before .args in
     sym (naming.fit-parts (now (a .t)) (a .q) (a .i) _ _ _ (c .before .before .before .before .before .word-at .ensures) refl refl true true false _ _ _ (eq-eqb _ _ (c .before .before .before .before .if1 .left)) (eq-eqb _ _ (c .before .before .if2 .left)) (ne-eqb _ _ (c .if3 .taken)) refl refl refl)
 
--- src/lib.rt:112:60
 add-word-at : tie.Need-add-word-at
 add-word-at c = search needs
 
--- src/lib.rt:112:36
 word-at-requires-2 : tie.Need-word-at-requires-2
 word-at-requires-2 c κs = search needs
 
--- src/lib.rt:112:9
 kind-fits-requires : tie.Need-kind-fits-requires
 kind-fits-requires c κs = search needs
 
--- src/lib.rt:113:9
 returns-4 : tie.Need-returns-4
 returns-4 c = let a = c .before .before .before .before .before .before .before .before .before .before .args in
     sym (naming.fit-parts (now (a .t)) (a .q) (a .i) _ _ _ (c .before .before .before .before .before .before .before .before .word-at .ensures) refl (c .before .before .word-at2 .ensures) true true true false _ _ (eq-eqb _ _ (c .before .before .before .before .before .before .before .if1 .left)) (eq-eqb _ _ (c .before .before .before .before .before .if2 .left)) (eq-eqb _ _ (c .before .before .before .if3 .left)) (sym (c .before .kind-fits .ensures) ∙ not-true _ (c .if4 .taken)) refl refl)
 
--- src/lib.rt:115:39
 add-word-at-2 : tie.Need-add-word-at-2
 add-word-at-2 c = search needs
 
--- src/lib.rt:115:9
 word-at-requires-3 : tie.Need-word-at-requires-3
 word-at-requires-3 c κs = search needs
 
--- src/lib.rt:116:9
 cap-fits-requires : tie.Need-cap-fits-requires
 cap-fits-requires c κs = search needs
 
--- src/lib.rt:117:9
 returns-5 : tie.Need-returns-5
 returns-5 c = let a = c .before .before .before .before .before .before .before .before .before .before .before .before .before .args in
     sym (naming.fit-parts (now (a .t)) (a .q) (a .i) _ _ _ (c .before .before .before .before .before .before .before .before .before .before .before .word-at .ensures) (c .before .before .word-at3 .ensures) (c .before .before .before .before .before .word-at2 .ensures) true true true true false _ (eq-eqb _ _ (c .before .before .before .before .before .before .before .before .before .before .if1 .left)) (eq-eqb _ _ (c .before .before .before .before .before .before .before .before .if2 .left)) (eq-eqb _ _ (c .before .before .before .before .before .before .if3 .left)) (sym (c .before .before .before .before .kind-fits .ensures) ∙ not-false _ (c .before .before .before .if4 .left)) (sym (c .before .cap-fits .ensures) ∙ not-true _ (c .if5 .taken)) refl)
 
--- src/lib.rt:119:5
 vs-fits-requires : tie.Need-vs-fits-requires
 vs-fits-requires c κs = search needs
 
--- src/lib.rt:98:1
 returns-6 : tie.Need-returns-6
 returns-6 c = let a = c .before .before .before .before .before .before .before .before .before .before .before .before .before .before .args in
     sym (naming.fit-parts (now (a .t)) (a .q) (a .i) _ _ _ (c .before .before .before .before .before .before .before .before .before .before .before .before .word-at .ensures) (c .before .before .before .word-at3 .ensures) (c .before .before .before .before .before .before .word-at2 .ensures) true true true true true _ (eq-eqb _ _ (c .before .before .before .before .before .before .before .before .before .before .before .if1 .left)) (eq-eqb _ _ (c .before .before .before .before .before .before .before .before .before .if2 .left)) (eq-eqb _ _ (c .before .before .before .before .before .before .before .if3 .left)) (sym (c .before .before .before .before .before .kind-fits .ensures) ∙ not-false _ (c .before .before .before .before .if4 .left)) (sym (c .before .before .cap-fits .ensures) ∙ not-false _ (c .before .if5 .left)) (sym (c .vs-fits .ensures)))

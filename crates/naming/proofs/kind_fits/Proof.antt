@@ -1,33 +1,25 @@
-use borrow.Author.Tests.{lt-ltb, le-ltb, le-leb, lt-leb, eq-eqb, ne-eqb, not-true, not-false}
-use mathlib.Core.Path.{_≡_, refl, sym, ap, _∙_}
-use Rattle.naming.specs.Naming.{is, isNone, kindFits, capFits, vsFits}
+use borrow.Author.Tests.{lt-ltb, le-ltb, eq-eqb, ne-eqb}
+use Rattle.naming.specs.Naming.{kindFits}
 use Rattle.layout.specs.Description.{had}
 use borrow.Author.Needs.{needs}
 use Rattle.naming.proofs.kind_fits.Statement.{statement}
 use Rattle.naming.proofs.kind_fits.Tie as tie
-use Rattle.naming.proofs.kind_fits.Reads as reads
-use Rattle.naming.proofs.kind_fits.Lts as lts
 
--- src/lib.rt:54:9
 returns : tie.Need-returns
 unfolding kindFits had
 returns c = simp (ne-eqb _ _ (c .if1 .taken))
 
--- src/lib.rt:57:9
 returns-2 : tie.Need-returns-2
 unfolding kindFits had
 returns-2 c = simp (eq-eqb _ _ (c .before .if1 .left), eq-eqb _ _ (c .if2 .taken))
 
--- src/lib.rt:60:9
 returns-3 : tie.Need-returns-3
 unfolding kindFits had
 returns-3 c = simp (eq-eqb _ _ (c .before .before .if1 .left), ne-eqb _ _ (c .before .if2 .left), le-ltb _ _ (c .if3 .taken))
 
--- src/lib.rt:62:6
 shr-result : tie.Need-shr-result
 shr-result c = search needs
 
--- src/lib.rt:50:1
 returns-4 : tie.Need-returns-4
 unfolding kindFits had
 returns-4 c = simp (eq-eqb _ _ (c .before .before .if1 .left), ne-eqb _ _ (c .before .if2 .left), lt-ltb _ _ (c .if3 .left))

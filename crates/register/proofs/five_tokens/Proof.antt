@@ -5,7 +5,7 @@ use denote.Ref.{now}
 use Rattle.util.specs.Number.{hexNumber, decimalNumber}
 use Rattle.util.specs.declared.Number.the-variants.{Value, None}
 use Rattle.util.proofs.Laws.{hex-le, decimal-le}
-use Rattle.register.specs.Line.{fiveTokens, token, registerOf}
+use Rattle.register.specs.Line.{fiveTokens, withToken, registerOf}
 use borrow.Author.Needs.{needs}
 use Rattle.register.proofs.five_tokens.Statement.{statement}
 use Rattle.register.proofs.five_tokens.Tie as tie
@@ -24,7 +24,7 @@ enum-told c = search needs
 
 -- src/lib.rt:97:9
 returns : tie.Need-returns
-unfolding fiveTokens token
+unfolding fiveTokens withToken
 returns c = let e0 : hexNumber 0xffff (now (c .before .before .before .before .before .before .before .before .args .a)) ≡ None = sym (c .before .before .parse-hex .ensures) ∙ c .enum-told .given .1 in simp (e0)
 
 -- src/lib.rt:99:35
@@ -41,7 +41,7 @@ enum-told-2 c = search needs
 
 -- src/lib.rt:100:9
 returns-2 : tie.Need-returns-2
-unfolding fiveTokens token
+unfolding fiveTokens withToken
 returns-2 c = let e0 : hexNumber 0xffff (now (c .before .before .before .before .before .before .before .before .before .before .before .before .args .a)) ≡ Value (c .before .before .before .before .offset .given .0 .0) = sym (c .before .before .before .before .before .before .parse-hex .ensures) ∙ c .before .before .before .before .offset .given .1 in
     let e1 : decimalNumber 0xffff (now (c .before .before .before .before .before .before .before .before .before .before .before .before .args .b)) ≡ None = sym (c .before .before .parse-decimal .ensures) ∙ c .enum-told2 .given .1 in simp (e0, e1)
 
@@ -59,7 +59,7 @@ enum-told-3 c = search needs
 
 -- src/lib.rt:103:9
 returns-3 : tie.Need-returns-3
-unfolding fiveTokens token
+unfolding fiveTokens withToken
 returns-3 c = let e0 : hexNumber 0xffff (now (c .before .before .before .before .before .before .before .before .before .before .before .before .before .before .before .before .args .a)) ≡ Value (c .before .before .before .before .before .before .before .before .offset .given .0 .0) = sym (c .before .before .before .before .before .before .before .before .before .before .parse-hex .ensures) ∙ c .before .before .before .before .before .before .before .before .offset .given .1 in
     let e1 : decimalNumber 0xffff (now (c .before .before .before .before .before .before .before .before .before .before .before .before .before .before .before .before .args .b)) ≡ Value (c .before .before .before .before .relative .given .0 .0) = sym (c .before .before .before .before .before .before .parse-decimal .ensures) ∙ c .before .before .before .before .relative .given .1 in
     let e2 : hexNumber 0xffff (now (c .before .before .before .before .before .before .before .before .before .before .before .before .before .before .before .before .args .c)) ≡ None = sym (c .before .before .parse-hex2 .ensures) ∙ c .enum-told3 .given .1 in simp (e0, e1, e2)
@@ -78,7 +78,7 @@ enum-told-4 c = search needs
 
 -- src/lib.rt:106:9
 returns-4 : tie.Need-returns-4
-unfolding fiveTokens token
+unfolding fiveTokens withToken
 returns-4 c = let e0 : hexNumber 0xffff (now (c .before .before .before .before .before .before .before .before .before .before .before .before .before .before .before .before .before .before .before .before .args .a)) ≡ Value (c .before .before .before .before .before .before .before .before .before .before .before .before .offset .given .0 .0) = sym (c .before .before .before .before .before .before .before .before .before .before .before .before .before .before .parse-hex .ensures) ∙ c .before .before .before .before .before .before .before .before .before .before .before .before .offset .given .1 in
     let e1 : decimalNumber 0xffff (now (c .before .before .before .before .before .before .before .before .before .before .before .before .before .before .before .before .before .before .before .before .args .b)) ≡ Value (c .before .before .before .before .before .before .before .before .relative .given .0 .0) = sym (c .before .before .before .before .before .before .before .before .before .before .parse-decimal .ensures) ∙ c .before .before .before .before .before .before .before .before .relative .given .1 in
     let e2 : hexNumber 0xffff (now (c .before .before .before .before .before .before .before .before .before .before .before .before .before .before .before .before .before .before .before .before .args .c)) ≡ Value (c .before .before .before .before .cap .given .0 .0) = sym (c .before .before .before .before .before .before .parse-hex2 .ensures) ∙ c .before .before .before .before .cap .given .1 in
@@ -98,7 +98,7 @@ enum-told-5 c = search needs
 
 -- src/lib.rt:109:9
 returns-5 : tie.Need-returns-5
-unfolding fiveTokens token
+unfolding fiveTokens withToken
 returns-5 c = let e0 : hexNumber 0xffff (now (c .before .before .before .before .before .before .before .before .before .before .before .before .before .before .before .before .before .before .before .before .before .before .before .before .args .a)) ≡ Value (c .before .before .before .before .before .before .before .before .before .before .before .before .before .before .before .before .offset .given .0 .0) = sym (c .before .before .before .before .before .before .before .before .before .before .before .before .before .before .before .before .before .before .parse-hex .ensures) ∙ c .before .before .before .before .before .before .before .before .before .before .before .before .before .before .before .before .offset .given .1 in
     let e1 : decimalNumber 0xffff (now (c .before .before .before .before .before .before .before .before .before .before .before .before .before .before .before .before .before .before .before .before .before .before .before .before .args .b)) ≡ Value (c .before .before .before .before .before .before .before .before .before .before .before .before .relative .given .0 .0) = sym (c .before .before .before .before .before .before .before .before .before .before .before .before .before .before .parse-decimal .ensures) ∙ c .before .before .before .before .before .before .before .before .before .before .before .before .relative .given .1 in
     let e2 : hexNumber 0xffff (now (c .before .before .before .before .before .before .before .before .before .before .before .before .before .before .before .before .before .before .before .before .before .before .before .before .args .c)) ≡ Value (c .before .before .before .before .before .before .before .before .cap .given .0 .0) = sym (c .before .before .before .before .before .before .before .before .before .before .parse-hex2 .ensures) ∙ c .before .before .before .before .before .before .before .before .cap .given .1 in
@@ -127,7 +127,7 @@ cast-t25 c = let e4 : hexNumber 0xffffffff (now (c .before .before .before .befo
 
 -- src/lib.rt:93:1
 returns-6 : tie.Need-returns-6
-unfolding fiveTokens token registerOf
+unfolding fiveTokens withToken registerOf
 returns-6 c = let e0 : hexNumber 0xffff (now (c .before .before .before .before .before .before .before .before .before .before .before .before .before .before .before .before .before .before .before .before .before .before .before .before .before .args .a)) ≡ Value (c .before .before .before .before .before .before .before .before .before .before .before .before .before .before .before .before .before .offset .given .0 .0) = sym (c .before .before .before .before .before .before .before .before .before .before .before .before .before .before .before .before .before .before .before .parse-hex .ensures) ∙ c .before .before .before .before .before .before .before .before .before .before .before .before .before .before .before .before .before .offset .given .1 in
     let e1 : decimalNumber 0xffff (now (c .before .before .before .before .before .before .before .before .before .before .before .before .before .before .before .before .before .before .before .before .before .before .before .before .before .args .b)) ≡ Value (c .before .before .before .before .before .before .before .before .before .before .before .before .before .relative .given .0 .0) = sym (c .before .before .before .before .before .before .before .before .before .before .before .before .before .before .before .parse-decimal .ensures) ∙ c .before .before .before .before .before .before .before .before .before .before .before .before .before .relative .given .1 in
     let e2 : hexNumber 0xffff (now (c .before .before .before .before .before .before .before .before .before .before .before .before .before .before .before .before .before .before .before .before .before .before .before .before .before .args .c)) ≡ Value (c .before .before .before .before .before .before .before .before .before .cap .given .0 .0) = sym (c .before .before .before .before .before .before .before .before .before .before .before .parse-hex2 .ensures) ∙ c .before .before .before .before .before .before .before .before .before .cap .given .1 in

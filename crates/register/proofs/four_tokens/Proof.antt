@@ -5,7 +5,7 @@ use denote.Ref.{now}
 use Rattle.util.specs.Number.{hexNumber, decimalNumber}
 use Rattle.util.specs.declared.Number.the-variants.{Value, None}
 use Rattle.util.proofs.Laws.{hex-le, decimal-le}
-use Rattle.register.specs.Line.{fourTokens, token, registerOf}
+use Rattle.register.specs.Line.{fourTokens, withToken, registerOf}
 use borrow.Author.Needs.{needs}
 use Rattle.register.proofs.four_tokens.Statement.{statement}
 use Rattle.register.proofs.four_tokens.Tie as tie
@@ -24,7 +24,7 @@ enum-told c = search needs
 
 -- src/lib.rt:75:9
 returns : tie.Need-returns
-unfolding fourTokens token
+unfolding fourTokens withToken
 returns c = let e0 : hexNumber 0xffff (now (c .before .before .before .before .before .before .args .a)) ≡ None = sym (c .before .before .parse-hex .ensures) ∙ c .enum-told .given .1 in simp (e0)
 
 -- src/lib.rt:77:35
@@ -41,7 +41,7 @@ enum-told-2 c = search needs
 
 -- src/lib.rt:78:9
 returns-2 : tie.Need-returns-2
-unfolding fourTokens token
+unfolding fourTokens withToken
 returns-2 c = let e0 : hexNumber 0xffff (now (c .before .before .before .before .before .before .before .before .before .before .args .a)) ≡ Value (c .before .before .before .before .offset .given .0 .0) = sym (c .before .before .before .before .before .before .parse-hex .ensures) ∙ c .before .before .before .before .offset .given .1 in
     let e1 : decimalNumber 0xffff (now (c .before .before .before .before .before .before .before .before .before .before .args .b)) ≡ None = sym (c .before .before .parse-decimal .ensures) ∙ c .enum-told2 .given .1 in simp (e0, e1)
 
@@ -59,7 +59,7 @@ enum-told-3 c = search needs
 
 -- src/lib.rt:81:9
 returns-3 : tie.Need-returns-3
-unfolding fourTokens token
+unfolding fourTokens withToken
 returns-3 c = let e0 : hexNumber 0xffff (now (c .before .before .before .before .before .before .before .before .before .before .before .before .before .before .args .a)) ≡ Value (c .before .before .before .before .before .before .before .before .offset .given .0 .0) = sym (c .before .before .before .before .before .before .before .before .before .before .parse-hex .ensures) ∙ c .before .before .before .before .before .before .before .before .offset .given .1 in
     let e1 : decimalNumber 0xffff (now (c .before .before .before .before .before .before .before .before .before .before .before .before .before .before .args .b)) ≡ Value (c .before .before .before .before .relative .given .0 .0) = sym (c .before .before .before .before .before .before .parse-decimal .ensures) ∙ c .before .before .before .before .relative .given .1 in
     let e2 : hexNumber 0xffffffff (now (c .before .before .before .before .before .before .before .before .before .before .before .before .before .before .args .d)) ≡ None = sym (c .before .before .parse-hex2 .ensures) ∙ c .enum-told3 .given .1 in simp (e0, e1, e2)
@@ -78,7 +78,7 @@ cast-t15 c = let e2 : hexNumber 0xffffffff (now (c .before .before .before .befo
 
 -- src/lib.rt:71:1
 returns-4 : tie.Need-returns-4
-unfolding fourTokens token registerOf
+unfolding fourTokens withToken registerOf
 returns-4 c = let e0 : hexNumber 0xffff (now (c .before .before .before .before .before .before .before .before .before .before .before .before .before .before .before .args .a)) ≡ Value (c .before .before .before .before .before .before .before .before .before .offset .given .0 .0) = sym (c .before .before .before .before .before .before .before .before .before .before .before .parse-hex .ensures) ∙ c .before .before .before .before .before .before .before .before .before .offset .given .1 in
     let e1 : decimalNumber 0xffff (now (c .before .before .before .before .before .before .before .before .before .before .before .before .before .before .before .args .b)) ≡ Value (c .before .before .before .before .before .relative .given .0 .0) = sym (c .before .before .before .before .before .before .before .parse-decimal .ensures) ∙ c .before .before .before .before .before .relative .given .1 in
     let e2 : hexNumber 0xffffffff (now (c .before .before .before .before .before .before .before .before .before .before .before .before .before .before .before .args .d)) ≡ Value (c .before .value .given .0 .0) = sym (c .before .before .before .parse-hex2 .ensures) ∙ c .before .value .given .1 in simp (e0, e1, e2)

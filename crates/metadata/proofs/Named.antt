@@ -1,19 +1,17 @@
--- Laws for the layers above: a description that names a register, and the words at its place, say the same; what a check gives of its fields. Assumes nothing.
-use Prim.Native.Nat.{ℕ, zero, suc, _+_, _/_, _%_, _≤_, _<_}
+-- Laws for the layers above: a description that names a register, and the words at its place, say the same. Assumes nothing.
+use Prim.Native.Nat.{ℕ}
 use mathlib.Core.Path.{_≡_, refl, sym, ap, _∙_, subst}
 use mathlib.Core.List.{List, [], _∷_, map}
-use mathlib.Core.Bool.{Bool, true, false, cond, _&&_, false≢true}
+use mathlib.Core.Bool.{Bool, true, false, cond}
 use mathlib.Core.Option.{Option, none, some}
 use native.Mathlib.Omega.{arith}
-use lib.Dec.{ltb, leb, eqb}
-use lib.ListN.{length}
-use borrow.Author.Tests.{eq-eqb, eqb-true, leb-true}
-use Rattle.refusal.specs.Outcome.{Outcome, refused, value}
-use Rattle.layout.specs.Layout.{word, headsFrom, heads, keep, isRegister, registers}
-use Rattle.layout.specs.Description.{Description, Field, described, fieldsBehind, descriptionsOf}
-use Rattle.naming.specs.Naming.{fits, only, naming, placeOf, foundPlace}
+use lib.Dec.{eqb}
+use borrow.Author.Tests.{eq-eqb, eqb-true}
+use Rattle.layout.specs.Layout.{heads, keep, isRegister, registers}
+use Rattle.layout.specs.Description.{Description, described, fieldsBehind, descriptionsOf}
+use Rattle.naming.specs.Naming.{fits, only, naming, routerNaming, placeOf, foundPlace}
 use Rattle.fields.specs.Names.{alike, nameIs}
-use Rattle.metadata.specs.Calls.{at, standing}
+use Rattle.metadata.specs.Calls.{at}
 use Rattle.naming.specs.declared.Sought.{Sought}
 use Rattle.naming.specs.declared.Found.{Found}
 use Rattle.naming.specs.declared.Found.the-variants.{At, Nowhere}
@@ -69,6 +67,10 @@ only-some (x ∷ (y ∷ xs)) d e = let z : _≡_ {A = ℕ} 0 1 = cc in absurd (o
 pub named-from : (t : List ℕ) (q : Sought) (d : Description) → naming q (descriptionsOf t) ≡ some d → From t (descriptionsOf t) d
 unfolding naming descriptionsOf registers among
 named-from t q d e = first-kept t (fits q) d [] (heads t) (only-some _ d e)
+
+pub router-from : (t : List ℕ) (offset cap vs : ℕ) (d : Description) → routerNaming offset cap vs (descriptionsOf t) ≡ some d → From t (descriptionsOf t) d
+unfolding routerNaming
+router-from t offset cap vs d e = named-from t _ d e
 
 -- its fields and its name are those that find_field and name_is look at
 module _ (t : List ℕ) (ds : List Description) (d : Description) (h : From t ds d) where

@@ -1,7 +1,7 @@
 use borrow.Author.Tests.{ne-eqb}
 use Rattle.usb4.specs.Codes.{speedOf}
-use Rattle.usb4.proofs.link_speed.Statement.{statement}
-use Rattle.usb4.proofs.link_speed.Tie as tie
+use Rattle.usb4.proofs.speed_of.Statement.{statement}
+use Rattle.usb4.proofs.speed_of.Tie as tie
 
 -- src/lib.rt:168:9
 returns : tie.Need-returns
@@ -23,5 +23,5 @@ returns-4 : tie.Need-returns-4
 unfolding speedOf
 returns-4 c = simp (ne-eqb _ _ (c .before .before .if1 .left), ne-eqb _ _ (c .before .if2 .left), ne-eqb _ _ (c .if3 .left))
 
-pub link-speed-spec : {M : Type 1} → statement M
-link-speed-spec = tie.close (tie.spec returns returns-2 returns-3 returns-4)
+pub speed-of-spec : {M : Type 1} → statement M
+speed-of-spec = tie.close (tie.spec returns returns-2 returns-3 returns-4)
