@@ -56,50 +56,72 @@ size-pos w = go (eqb (w / 268435456 % 16) 1) (eqb (w / 268435456 % 16) 2)
     go false true = omega arith
     go false false = omega arith
 
--- r is the head places from i to the end of the list: what a scan has before it
-pub record Rest (t : List ℕ) (i : ℕ) (r : List ℕ) : Type 0 where
-  pub most : ℕ
-  pub enough : length t ≤ i + most
-  pub is : r ≡ headsFrom t i most
+-- scans over the groups of a list, for any size of groups that is never 0
+module _ (size : ℕ → ℕ) where
+  -- r is the head places from i to the end of the list: what a scan has before it
+  pub record Scan (t : List ℕ) (i : ℕ) (r : List ℕ) : Type 0 where
+    pub most : ℕ
+    pub enough : length t ≤ i + most
+    pub is : r ≡ headsFrom size t i most
+
+  -- the next head, and what is left behind it
+  pub record Onward (t : List ℕ) (i : ℕ) (r : List ℕ) : Type 0 where
+    pub left : List ℕ
+    pub here : r ≡ i ∷ left
+    pub then : Scan t (i + size (word t i)) left
+
+  pub scan-all : (t : List ℕ) → Scan t 0 (headsFrom size t 0 (length t))
+  scan-all t = record { most = length t; enough = omega arith; is = refl }
+
+  pub scan-end : (t : List ℕ) (i : ℕ) (r : List ℕ) → Scan t i r → length t ≤ i → r ≡ []
+  unfolding headsFrom
+  scan-end t i r h l = h .is ∙ go (h .most)
+    where
+      go : (n : ℕ) → headsFrom size t i n ≡ []
+      go zero = refl
+      go (suc n) = simp (le-ltb i (length t) l)
+
+  module _ (pos : (w : ℕ) → 0 < size w) where
+    pub scan-next : (t : List ℕ) (i : ℕ) (r : List ℕ) → Scan t i r → i < length t → Onward t i r
+    unfolding headsFrom
+    scan-next t i r h l = go (h .most) (h .enough) (h .is)
+      where
+        go : (n : ℕ) → length t ≤ i + n → r ≡ headsFrom size t i n → Onward t i r
+        go zero k e = absurd (omega arith)
+        go (suc n) k e = record {
+          left = headsFrom size t (i + size (word t i)) n;
+          here = e ∙ simp (lt-ltb i (length t) l);
+          then = record { most = n; enough = omega (arith, pos (word t i)); is = refl };
+        }
+
+    same-heads : (t : List ℕ) (n m i : ℕ) → length t ≤ i + n → length t ≤ i + m → headsFrom size t i n ≡ headsFrom size t i m
+    unfolding headsFrom
+    same-heads t zero zero i p q = refl
+    same-heads t zero (suc m) i p q = simp (le-ltb i (length t) (omega arith))
+    same-heads t (suc n) zero i p q = simp (le-ltb i (length t) (omega arith))
+    same-heads t (suc n) (suc m) i p q =
+        ap (λ (z : List ℕ). cond (ltb i (length t)) (i ∷ z) [])
+        (same-heads t n m (i + size (word t i)) (omega (arith, pos (word t i))) (omega (arith, pos (word t i))))
+
+    -- two scans that stand at one place have the same before them
+    pub scan-same : (t : List ℕ) (i : ℕ) (r s : List ℕ) → Scan t i r → Scan t i s → r ≡ s
+    scan-same t i r s h k = h .is ∙ same-heads t (h .most) (k .most) i (h .enough) (k .enough) ∙ sym (k .is)
+
+-- the same for description groups
+abbrev pub Rest : List ℕ → ℕ → List ℕ → Type 0
+Rest t i r = Scan sizeOf t i r
+
+abbrev pub Next : List ℕ → ℕ → List ℕ → Type 0
+Next t i r = Onward sizeOf t i r
 
 pub rest-all : (t : List ℕ) → Rest t 0 (heads t)
-rest-all t = record { most = length t; enough = omega arith; is = refl }
+rest-all t = scan-all sizeOf t
 
 pub rest-end : (t : List ℕ) (i : ℕ) (r : List ℕ) → Rest t i r → length t ≤ i → r ≡ []
-unfolding headsFrom
-rest-end t i r h l = h .is ∙ go (h .most)
-  where
-    go : (n : ℕ) → headsFrom t i n ≡ []
-    go zero = refl
-    go (suc n) = simp (le-ltb i (length t) l)
-
--- the next head, and what is left behind it
-pub record Next (t : List ℕ) (i : ℕ) (r : List ℕ) : Type 0 where
-  pub left : List ℕ
-  pub here : r ≡ i ∷ left
-  pub then : Rest t (i + sizeOf (word t i)) left
+rest-end t i r h l = scan-end sizeOf t i r h l
 
 pub rest-next : (t : List ℕ) (i : ℕ) (r : List ℕ) → Rest t i r → i < length t → Next t i r
-unfolding headsFrom
-rest-next t i r h l = go (h .most) (h .enough) (h .is)
-  where
-    go : (n : ℕ) → length t ≤ i + n → r ≡ headsFrom t i n → Next t i r
-    go zero k e = absurd (omega arith)
-    go (suc n) k e = record {
-      left = headsFrom t (i + sizeOf (word t i)) n;
-      here = e ∙ simp (lt-ltb i (length t) l);
-      then = record { most = n; enough = omega (arith, size-pos (word t i)); is = refl };
-    }
-
--- two scans that stand at one place have the same before them
-same-heads : (t : List ℕ) (n m i : ℕ) → length t ≤ i + n → length t ≤ i + m → headsFrom t i n ≡ headsFrom t i m
-unfolding headsFrom
-same-heads t zero zero i p q = refl
-same-heads t zero (suc m) i p q = simp (le-ltb i (length t) (omega arith))
-same-heads t (suc n) zero i p q = simp (le-ltb i (length t) (omega arith))
-same-heads t (suc n) (suc m) i p q =
-    ap (λ (z : List ℕ). cond (ltb i (length t)) (i ∷ z) [])
-    (same-heads t n m (i + sizeOf (word t i)) (omega (arith, size-pos (word t i))) (omega (arith, size-pos (word t i))))
+rest-next t i r h l = scan-next sizeOf size-pos t i r h l
 
 pub rest-same : (t : List ℕ) (i : ℕ) (r s : List ℕ) → Rest t i r → Rest t i s → r ≡ s
-rest-same t i r s h k = h .is ∙ same-heads t (h .most) (k .most) i (h .enough) (k .enough) ∙ sym (k .is)
+rest-same t i r s h k = scan-same sizeOf size-pos t i r s h k

@@ -44,7 +44,7 @@ fieldsOf t (p ∷ ps) = cond (eqb (kind (word t p)) 2) (fieldOf t p ∷ fieldsOf
 
 -- a field belongs to the register before it: those behind the group at i
 unfoldable pub fieldsBehind : List ℕ → ℕ → List Field
-fieldsBehind t i = fieldsOf t (headsFrom t (i + sizeOf (word t i)) (length t))
+fieldsBehind t i = fieldsOf t (headsFrom sizeOf t (i + sizeOf (word t i)) (length t))
 
 -- the register group at i
 unfoldable pub described : List ℕ → ℕ → Description

@@ -96,14 +96,14 @@ sizeOf w =
     cond (eqb (kind w) 1) (3 + nameWords (nameLen w))
     (cond (eqb (kind w) 2) (1 + nameWords (fieldLen w) + nameWords (shortLen w)) 1)
 
--- the head places from i on, at most n of them, each group right after the one before it
-unfoldable pub headsFrom : List ℕ → ℕ → ℕ → List ℕ
-headsFrom t i zero = []
-headsFrom t i (suc n) = cond (ltb i (length t)) (i ∷ headsFrom t (i + sizeOf (word t i)) n) []
+-- the head places from i on, at most n of them, each group right after the one before it; a group's head word says its size
+unfoldable pub headsFrom : (ℕ → ℕ) → List ℕ → ℕ → ℕ → List ℕ
+headsFrom size t i zero = []
+headsFrom size t i (suc n) = cond (ltb i (length t)) (i ∷ headsFrom size t (i + size (word t i)) n) []
 
 -- the head places of the list
 abbrev pub heads : List ℕ → List ℕ
-heads t = headsFrom t 0 (length t)
+heads t = headsFrom sizeOf t 0 (length t)
 
 -- those of a list that pass a test
 unfoldable pub keep : {A : Type 0} → (A → Bool) → List A → List A

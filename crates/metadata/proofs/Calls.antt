@@ -14,7 +14,8 @@ use Rattle.description.specs.Rules.{checkOf, readDescriptions, checkedOutcome}
 use Rattle.description.specs.declared.Checked.{Checked}
 use Rattle.description.specs.declared.Checked.the-variants.{WellFormed, Refused}
 use Rattle.naming.specs.Naming.{naming, placeOf, foundPlace}
-use Rattle.metadata.specs.Calls.{describeAnswer, describedOutcome, at, standing, nameWordsOf, unlessRefused, nameAnswer, valueIn, fieldIn, fieldAnswer, fieldOutcome}
+use Rattle.metadata.specs.Calls.{describeAnswer, describedOutcome, at, nameWordsOf, unlessRefused, nameAnswer, valueIn, fieldIn, fieldAnswer, fieldOutcome}
+use Rattle.metadata.specs.Work.{standing}
 use Rattle.fields.specs.Names.{findField}
 use Rattle.fields.specs.declared.FieldFound.{FieldFound}
 use Rattle.fields.specs.declared.FieldFound.the-variants.{Bits, Missing}

@@ -29,14 +29,14 @@ record Behind (t : List ℕ) (g : ℕ → Bool) (p : ℕ) : Type 0 where
 none-some : (o : Option Description) (d : Description) → o ≡ none → o ≡ some d → ⊥
 none-some o d a b = let z : _≡_ {A = ℕ} 0 1 = cc in omega arith
 
-behind : (t : List ℕ) (g : ℕ → Bool) (p : ℕ) (d : Description) (n i : ℕ) → length t ≤ i + n → among t p (headsFrom t i n) ≡ some d
-    → firstBad g (headsFrom t i n) ≡ value tt → Behind t g p
+behind : (t : List ℕ) (g : ℕ → Bool) (p : ℕ) (d : Description) (n i : ℕ) → length t ≤ i + n → among t p (headsFrom sizeOf t i n) ≡ some d
+    → firstBad g (headsFrom sizeOf t i n) ≡ value tt → Behind t g p
 unfolding headsFrom
 behind t g p d zero i l e a = absurd (none-some _ d (among-nil t p) e)
 behind t g p d (suc n) i l e a = go (decLt i (length t)) (behind t g p d n (i + sizeOf (word t i)) (omega (arith, size-pos (word t i))))
   where
     next : List ℕ
-    next = headsFrom t (i + sizeOf (word t i)) n
+    next = headsFrom sizeOf t (i + sizeOf (word t i)) n
 
     Later : Type 0
     Later = among t p next ≡ some d → firstBad g next ≡ value tt → Behind t g p
@@ -110,6 +110,6 @@ pub field-in-order : (t : List ℕ) (d : Description) (name : List ℕ) (s e : �
 unfolding fieldsBehind
 field-in-order t d name s e a h k =
     let b = behind t (goodGroup t) (d .place) d (length t) 0 (omega arith) (sym (at-heads t (d .place)) ∙ h .found) (check-good t a) in
-    let r : Rest t (d .place + sizeOf (word t (d .place))) (headsFrom t (d .place + sizeOf (word t (d .place))) (length t)) = record { most = length t; enough = omega arith; is = refl } in
+    let r : Rest t (d .place + sizeOf (word t (d .place))) (headsFrom sizeOf t (d .place + sizeOf (word t (d .place))) (length t)) = record { most = length t; enough = omega arith; is = refl } in
     found-order t name (b .places) s e (b .good)
     (ap (λ z. findField name (fieldsOf t z)) (rest-same t _ _ _ (b .rest) r) ∙ ap (λ z. findField name z) (its-fields t _ d h) ∙ k)

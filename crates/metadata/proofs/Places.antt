@@ -14,7 +14,8 @@ use Rattle.layout.specs.Layout.{word, sizeOf, headsFrom, heads, keep, isRegiste
 use Rattle.layout.specs.Description.{Description, described, descriptionsOf}
 use Rattle.description.specs.Rules.{maxWords, goodName, whole, goodHead, goodRegister, goodGroup, firstBad, checkOf}
 use Rattle.layout.proofs.Laws.{Rest, rest-all, rest-next, size-pos}
-use Rattle.metadata.specs.Calls.{at, standing}
+use Rattle.metadata.specs.Calls.{at}
+use Rattle.metadata.specs.Work.{standing}
 
 -- the description at a place, among the registers of some head places
 abbrev pub among : List ℕ → ℕ → List ℕ → Option Description
@@ -40,12 +41,12 @@ among-none : (t : List ℕ) (p : ℕ) (r : List ℕ) → isRegister t p ≡ fals
 unfolding keep
 among-none t p r e = rw e refl
 
-among-past : (t : List ℕ) (p n i : ℕ) → p < i → among t p (headsFrom t i n) ≡ none
+among-past : (t : List ℕ) (p n i : ℕ) → p < i → among t p (headsFrom sizeOf t i n) ≡ none
 unfolding headsFrom
 among-past t p zero i l = among-nil t p
 among-past t p (suc n) i l = go (ltb i (length t)) (among-past t p n (i + sizeOf (word t i)) (omega arith))
   where
-    go : (b : Bool) → among t p (headsFrom t (i + sizeOf (word t i)) n) ≡ none → among t p (cond b (i ∷ headsFrom t (i + sizeOf (word t i)) n) []) ≡ none
+    go : (b : Bool) → among t p (headsFrom sizeOf t (i + sizeOf (word t i)) n) ≡ none → among t p (cond b (i ∷ headsFrom sizeOf t (i + sizeOf (word t i)) n) []) ≡ none
     go true e = among-other t p i _ (λ q. omega arith) ∙ e
     go false e = among-nil t p
 
@@ -87,13 +88,13 @@ module _ (t : List ℕ) (p i : ℕ) (h : Seeking t p i) where
         let n = rest-next t p (h .0) (subst (λ z. Rest t z (h .0)) e (h .1)) m in
         h .2 ∙ ap (λ z. among t p z) (n .here) ∙ among-none t p (n .left) k ∙ past t p _ (n .left) (n .then) (omega (arith, size-pos (word t p))) ∙ no-standing t p
 
-among-short : (t : List ℕ) (p n i : ℕ) → length t ≤ p → among t p (headsFrom t i n) ≡ none
+among-short : (t : List ℕ) (p n i : ℕ) → length t ≤ p → among t p (headsFrom sizeOf t i n) ≡ none
 unfolding headsFrom
 among-short t p zero i l = among-nil t p
 among-short t p (suc n) i l = go (ltb i (length t)) refl (among-short t p n (i + sizeOf (word t i)) l)
   where
-    go : (b : Bool) → ltb i (length t) ≡ b → among t p (headsFrom t (i + sizeOf (word t i)) n) ≡ none
-        → among t p (cond b (i ∷ headsFrom t (i + sizeOf (word t i)) n) []) ≡ none
+    go : (b : Bool) → ltb i (length t) ≡ b → among t p (headsFrom sizeOf t (i + sizeOf (word t i)) n) ≡ none
+        → among t p (cond b (i ∷ headsFrom sizeOf t (i + sizeOf (word t i)) n) []) ≡ none
     go true q e = among-other t p i _ (λ z. omega (arith, ltb-true i (length t) q)) ∙ e
     go false q e = among-nil t p
 

@@ -1,6 +1,6 @@
 -- What the calls on a list of description words answer: 3 first, then module 4. Assumes nothing.
 use Prim.Native.Nat.{ℕ}
-use mathlib.Core.Bool.{Bool, cond}
+use mathlib.Core.Bool.{cond}
 use mathlib.Core.List.{List, [], _∷_}
 use mathlib.Core.Option.{Option, none, some}
 use lib.Dec.{eqb}
@@ -8,7 +8,7 @@ use lib.ListN.{length, take, drop}
 use Rattle.refusal.specs.Outcome.{Outcome, refused, value, bind}
 use Rattle.util.specs.Bits.{bitsOf}
 use Rattle.layout.specs.Layout.{nameWords, nameAt}
-use Rattle.layout.specs.Description.{Description, described}
+use Rattle.layout.specs.Description.{Description}
 use Rattle.description.specs.Rules.{readDescriptions}
 use Rattle.naming.specs.Naming.{naming, placeOf}
 use Rattle.fields.specs.Names.{findField}
@@ -63,7 +63,3 @@ unfoldable pub fieldOutcome : FieldValue → Outcome ℕ
 fieldOutcome (field-value.Value v) = value v
 fieldOutcome (field-value.Refused p) = refused 3 (p ∷ [])
 fieldOutcome field-value.NoField = refused 6 []
-
--- the description at a place of the words, where one stands there
-unfoldable pub standing : Bool → List ℕ → ℕ → Option Description
-standing b t p = cond b (some (described t p)) none

@@ -1,2 +1,3 @@
 pub mod Calls
 pub mod Ours
+pub mod Work

@@ -1,8 +1,9 @@
 // The calls on a list of description words: which group names a register, its name, its fields; and our own descriptions.
 ghost use mathlib.Core.Path.{_≡_};
 ghost use Rattle.layout.specs.Description.{descriptionsOf};
-ghost use Rattle.metadata.specs.Calls.{describeAnswer, describedOutcome, at, standing, nameAnswer, fieldIn, fieldAnswer, fieldOutcome};
+ghost use Rattle.metadata.specs.Calls.{describeAnswer, describedOutcome, at, nameAnswer, fieldIn, fieldAnswer, fieldOutcome};
 ghost use Rattle.metadata.specs.Ours.{oursWords};
+ghost use Rattle.metadata.specs.Work.{standing};
 use description::Checked;
 use fields::FieldFound;
 use naming::Found;

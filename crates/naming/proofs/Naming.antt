@@ -11,7 +11,8 @@ use borrow.Author.Tests.{lt-ltb, le-ltb, eq-eqb, ne-eqb}
 use Rattle.layout.specs.Layout.{word, hasCap, hasVs, capId, vsId, listed, kinds, sizeOf, heads, keep, isRegister, registers}
 use Rattle.layout.specs.Description.{had, described, descriptionsOf}
 use Rattle.layout.proofs.Laws.{Rest, rest-all, rest-next, rest-end}
-use Rattle.naming.specs.Naming.{is, kindFits, capFits, vsFits, fits, only, naming, placeOf, foundPlace, candidate}
+use Rattle.naming.specs.Naming.{is, kindFits, capFits, vsFits, fits, only, naming, placeOf, foundPlace}
+use Rattle.naming.specs.Work.{candidate}
 use Rattle.naming.specs.declared.Sought.{Sought}
 use Rattle.naming.specs.declared.Found.the-variants.{At, Nowhere}
 

@@ -4,8 +4,8 @@ use mathlib.Core.Bool.{Bool, true, false, cond, _&&_, _||_}
 use mathlib.Core.List.{List, [], _∷_}
 use mathlib.Core.Option.{Option, none, some}
 use lib.Dec.{ltb, eqb}
-use Rattle.layout.specs.Layout.{keep, isRegister}
-use Rattle.layout.specs.Description.{Description, described}
+use Rattle.layout.specs.Layout.{keep}
+use Rattle.layout.specs.Description.{Description}
 use Rattle.naming.specs.declared.Sought.{Sought}
 use Rattle.naming.specs.declared.Found.{Found}
 use Rattle.naming.specs.declared.Found.the-variants.{At, Nowhere}
@@ -61,7 +61,3 @@ placeOf (some d) = some (d .place)
 unfoldable pub foundPlace : Found → Option ℕ
 foundPlace (At p) = some p
 foundPlace Nowhere = none
-
--- the group at i is a register that is left
-unfoldable pub candidate : List ℕ → Sought → ℕ → Bool
-candidate t q i = isRegister t i && fits q (described t i)

@@ -4,7 +4,8 @@ ghost use Prim.Native.Nat.{_<_};
 ghost use lib.ListN.{length};
 ghost use Rattle.layout.specs.Layout.{hasCap, hasVs, capId, vsId, listed, kinds};
 ghost use Rattle.layout.specs.Description.{had, descriptionsOf};
-ghost use Rattle.naming.specs.Naming.{kindFits, capFits, vsFits, candidate, naming, routerNaming, placeOf, foundPlace};
+ghost use Rattle.naming.specs.Work.{candidate};
+ghost use Rattle.naming.specs.Naming.{kindFits, capFits, vsFits, naming, routerNaming, placeOf, foundPlace};
 
 // A register as it is looked up: its space, the adapter's kind (as usb4::type_number gives it), its relative offset and ids.
 pub struct Sought {

@@ -1,0 +1,3 @@
+pub mod Devices
+pub mod Rules
+pub mod Words
