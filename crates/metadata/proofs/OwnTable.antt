@@ -12,7 +12,8 @@ use Rattle.naming.specs.Naming.{is, isNone, kindFits, capFits, vsFits, fits, on
 use Rattle.naming.specs.declared.Sought.{Sought}
 use Rattle.fields.specs.Names.{lower, alike, fieldIs, findField}
 use Rattle.metadata.specs.Calls.{at, valueIn, fieldIn}
-use Rattle.metadata.specs.Ours.{bytesOf, bitsNamed, plain, capped, ours, oursWords}
+use Rattle.util.specs.Text.{bytesOf}
+use Rattle.metadata.specs.Ours.{bitsNamed, plain, capped, ours, oursWords}
 
 pub ours-read : readDescriptions oursWords ≡ value ours
 unfolding byteAt bytesFrom nameBytes sizeOf headsFrom keep isRegister registers had fieldOf fieldsOf fieldsBehind described descriptionsOf goodByte goodBytes goodName zeroUnless goodHead goodRange whole goodRegister goodField goodGroup firstBad checkOf readDescriptions bind bytesOf bitsNamed plain capped ours

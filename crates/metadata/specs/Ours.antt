@@ -1,14 +1,10 @@
 -- Document 01, "Our descriptions": the table, from `tb_regs.h`, and the words that say it. Assumes nothing.
 use Prim.Native.Nat.{ℕ, _+_, _^_}
-use Prim.Native.Char.{code}
-use Prim.Native.String.{String, [] as end-of-text, _∷_ as _then_}
+use Prim.Native.String.{String}
 use mathlib.Core.List.{List, [], _∷_}
 use mathlib.Core.Option.{none, some}
+use Rattle.util.specs.Text.{bytesOf}
 use Rattle.layout.specs.Description.{Field, Description}
-
-unfoldable pub bytesOf : String → List ℕ
-bytesOf end-of-text = []
-bytesOf (c then s) = code c ∷ bytesOf s
 
 -- bits start to end under a name, without a short name
 unfoldable pub bitsNamed : String → ℕ → ℕ → Field

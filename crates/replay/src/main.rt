@@ -3,12 +3,14 @@
 // each line of totals says `differ 1` and where.
 mod answer;
 mod case;
+mod named;
 mod rule;
 
 ghost use Prim.Native.Nat.{_<_, _≤_};
 ghost use lib.ListN.{length};
 use case::Input;
 use libc::STDOUT_FILENO;
+use named::Step;
 
 enum Kind {
     Line,
@@ -16,6 +18,12 @@ enum Kind {
     Hex(u64),
     Decimal(u64),
     Rule,
+}
+
+// A file's cases: each by itself, or questions about sets of descriptions.
+enum Cases {
+    Each(Kind),
+    Named,
 }
 
 // `first` is the line of the first case that differs, from 1 on; 0 where all agree.
@@ -68,17 +76,23 @@ fn agrees(
     }
 }
 
-// 1 where the case agrees. A case that the buffers are too small for doesn't.
-fn agreeing(kind: Kind, line: &[u8]) -> usize
-    ensures { λ r. ⌜ r ≤ 1 ⌝ }
-{
+// A case that the buffers are too small for doesn't agree.
+fn agreeing(kind: Kind, line: &[u8]) -> bool {
     let mut bytes = [0u8; 32768];
     let mut scratch = [0u32; 1024];
     let mut output = [0u32; 1024];
-    if agrees(kind, line, &mut bytes, &mut scratch, &mut output) {
-        return 1;
+    agrees(kind, line, &mut bytes, &mut scratch, &mut output)
+}
+
+// A case about names goes by the set in `words`, of which `held` words are in hand; any other stands by itself.
+fn take(cases: Cases, line: &[u8], words: &mut [u32], held: usize) -> Step {
+    match cases {
+        Cases::Named => named::take_line(line, words, held),
+        Cases::Each(kind) => Step {
+            agrees: agreeing(kind, line),
+            held: 0,
+        },
     }
-    0
 }
 
 // The first line that differs, where `before` is what it was so far.
@@ -92,14 +106,17 @@ fn first_of(before: usize, agreed: usize, line: usize) -> usize {
     line
 }
 
-fn count_cases(kind: Kind, text: &[u8]) -> Totals {
+fn count_cases(of: Cases, text: &[u8], words: &mut [u32]) -> Totals {
     let mut cases: usize = 0;
     let mut agree: usize = 0;
     let mut first: usize = 0;
+    let mut held: usize = 0;
     let mut start = 0;
     while start < text.len() {
         let end = line_end(text, start);
-        let agreed = agreeing(kind, &text[start..end]);
+        let step = take(of, &text[start..end], words, held);
+        held = step.held;
+        let agreed = named::one(step.agrees);
         agree += agreed;
         cases += 1;
         first = first_of(first, agreed, cases);
@@ -119,7 +136,7 @@ fn print_count(words: &[u8], n: usize) {
 }
 
 // Replays the file of that name. One that is missing or too long says so instead of totals.
-fn replay(name: &[u8], kind: Kind) {
+fn replay(name: &[u8], of: Cases) {
     io::write_all(STDOUT_FILENO, name);
     let fd = os::open_read(name);
     if fd < 0 {
@@ -133,7 +150,8 @@ fn replay(name: &[u8], kind: Kind) {
         io::write_all(STDOUT_FILENO, b" too long\n");
         return;
     }
-    let t = count_cases(kind, &text[..n]);
+    let mut words = [0u32; 16400];
+    let t = count_cases(of, &text[..n], &mut words);
     print_count(b" ", t.cases);
     print_count(b" agree ", t.agree);
     print_count(b" differ ", t.differ);
@@ -142,12 +160,14 @@ fn replay(name: &[u8], kind: Kind) {
 }
 
 fn main() {
-    replay(b"lines", Kind::Line);
-    replay(b"hex16", Kind::Hex(65535));
-    replay(b"hex32", Kind::Hex(4294967295));
-    replay(b"hex64", Kind::Hex(18446744073709551615));
-    replay(b"dec16", Kind::Decimal(65535));
-    replay(b"dec32", Kind::Decimal(4294967295));
-    replay(b"dumps", Kind::Dump);
-    replay(b"rules", Kind::Rule);
+    replay(b"lines", Cases::Each(Kind::Line));
+    replay(b"hex16", Cases::Each(Kind::Hex(65535)));
+    replay(b"hex32", Cases::Each(Kind::Hex(4294967295)));
+    replay(b"hex64", Cases::Each(Kind::Hex(18446744073709551615)));
+    replay(b"dec16", Cases::Each(Kind::Decimal(65535)));
+    replay(b"dec32", Cases::Each(Kind::Decimal(4294967295)));
+    replay(b"dumps", Cases::Each(Kind::Dump));
+    replay(b"rules", Cases::Each(Kind::Rule));
+    replay(b"names", Cases::Named);
+    replay(b"places", Cases::Named);
 }

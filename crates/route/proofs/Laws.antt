@@ -8,27 +8,27 @@ use lib.Dec.{eqb}
 use lib.Pow.{pow-add, pow-pos, pow-mono}
 use borrow.Author.Tests.{eq-eqb, ne-eqb, eqb-true}
 use Rattle.util.proofs.Laws.{and-false}
-use Rattle.route.specs.Route.{bytesOf, depthOf, upstreamRoute, downstreamRoute, downstreamAdapter}
+use Rattle.route.specs.Route.{usedBytes, depthOf, upstreamRoute, downstreamRoute, downstreamAdapter}
 use Rattle.route.specs.declared.RouteFound.the-variants.{Route, None}
 use Rattle.route.specs.declared.AdapterFound.the-variants as adapter
 use Rattle.route.specs.declared.AdapterFound.the-variants.{Adapter}
 
 -- what is left of a route after d bytes
 module _ (k r : ℕ) where
-  pub bytes-none : r < 1 → bytesOf (suc k) r ≡ 0
-  unfolding bytesOf
+  pub bytes-none : r < 1 → usedBytes (suc k) r ≡ 0
+  unfolding usedBytes
   bytes-none h = simp (eq-eqb r 0 (omega arith))
 
-  pub bytes-more : 1 ≤ r → bytesOf (suc k) r ≡ suc (bytesOf k (r / 256))
-  unfolding bytesOf
+  pub bytes-more : 1 ≤ r → usedBytes (suc k) r ≡ suc (usedBytes k (r / 256))
+  unfolding usedBytes
   bytes-more h = simp (ne-eqb r 0 (λ e. omega arith))
 
-pub bytes-le : (k r : ℕ) → bytesOf k r ≤ k
-unfolding bytesOf
+pub bytes-le : (k r : ℕ) → usedBytes k r ≤ k
+unfolding usedBytes
 bytes-le zero r = omega arith
 bytes-le (suc k) r = step (eqb r 0) (bytes-le k (r / 256))
   where
-    step : (t : Bool) → bytesOf k (r / 256) ≤ k → cond t 0 (suc (bytesOf k (r / 256))) ≤ suc k
+    step : (t : Bool) → usedBytes k (r / 256) ≤ k → cond t 0 (suc (usedBytes k (r / 256))) ≤ suc k
     step true h = omega arith
     step false h = omega arith
 
@@ -41,14 +41,14 @@ next-byte b = let e : 8 * b + 8 ≡ 8 * suc b = omega arith in
     sym (pow-add 2 (8 * b) 8) ∙ ap (λ n. 2 ^ n) e
 
 -- a route is below the byte of its depth
-below : (k r : ℕ) → r < 2 ^ (8 * k) → r < 2 ^ (8 * bytesOf k r)
-unfolding bytesOf
+below : (k r : ℕ) → r < 2 ^ (8 * k) → r < 2 ^ (8 * usedBytes k r)
+unfolding usedBytes
 below zero r h = h
 below (suc k) r h = step (eqb r 0) refl (below k (r / 256) (div-lt-iff-lt-mul (omega arith) .1 (subst (λ n. r < n) (sym (next-byte k)) h)))
   where
-    step : (t : Bool) → eqb r 0 ≡ t → r / 256 < 2 ^ (8 * bytesOf k (r / 256)) → r < 2 ^ (8 * cond t 0 (suc (bytesOf k (r / 256))))
+    step : (t : Bool) → eqb r 0 ≡ t → r / 256 < 2 ^ (8 * usedBytes k (r / 256)) → r < 2 ^ (8 * cond t 0 (suc (usedBytes k (r / 256))))
     step true e ih = omega (arith, eqb-true r 0 e)
-    step false e ih = subst (λ n. r < n) (next-byte (bytesOf k (r / 256))) (div-lt-iff-lt-mul (omega arith) .0 ih)
+    step false e ih = subst (λ n. r < n) (next-byte (usedBytes k (r / 256))) (div-lt-iff-lt-mul (omega arith) .0 ih)
 
 pub below-depth : (r : ℕ) → r < 2 ^ 64 → r < 2 ^ (8 * depthOf r)
 unfolding depthOf

@@ -9,13 +9,13 @@ use Rattle.route.specs.declared.AdapterFound.{AdapterFound}
 use Rattle.route.specs.declared.AdapterFound.the-variants as adapter
 
 -- of the k lowest bytes those up to the last that is not 0
-unfoldable pub bytesOf : ℕ → ℕ → ℕ
-bytesOf zero r = 0
-bytesOf (suc k) r = cond (eqb r 0) 0 (suc (bytesOf k (r / 2 ^ routeShift)))
+unfoldable pub usedBytes : ℕ → ℕ → ℕ
+usedBytes zero r = 0
+usedBytes (suc k) r = cond (eqb r 0) 0 (suc (usedBytes k (r / 2 ^ routeShift)))
 
 -- a depth is from 0 to 8; zero bytes below the last count
 unfoldable pub depthOf : ℕ → ℕ
-depthOf r = bytesOf 8 r
+depthOf r = usedBytes 8 r
 
 -- the last byte dropped; none at depth 0
 unfoldable pub upstreamRoute : ℕ → RouteFound

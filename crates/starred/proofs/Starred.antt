@@ -2,11 +2,12 @@
 use mathlib.Core.Path.{refl}
 use Rattle.scan.specs.Scan.{isSpace, isHigh, before, placeFrom, onFirst, pieces, filled, tokens}
 use Rattle.util.specs.Bits.{bitsOf}
+use Rattle.util.specs.Text.{bytesOf}
 use Rattle.util.specs.Number.{digitOf, afterPrefix, afterPlus, valueOf, allDigits, numberOf, hexNumber, decimalNumber}
 use Rattle.register.specs.Line.{isComment, withToken, registerOf, fourTokens, fiveTokens, byTokens, meaning, recordOf, lineAnswer}
-use Rattle.route.specs.Route.{bytesOf, depthOf, upstreamRoute}
-use Rattle.starred.specs.Table.{bytes, Holds, All, starred}
+use Rattle.route.specs.Route.{usedBytes, depthOf, upstreamRoute}
+use Rattle.starred.specs.Table.{Holds, All, starred}
 
 pub starred-hold : All starred
-unfolding All Holds starred bytes bitsOf isSpace isHigh before placeFrom onFirst pieces filled tokens digitOf afterPrefix afterPlus valueOf allDigits numberOf hexNumber decimalNumber isComment withToken registerOf fourTokens fiveTokens byTokens meaning recordOf lineAnswer bytesOf depthOf upstreamRoute
+unfolding All Holds starred bytesOf bitsOf isSpace isHigh before placeFrom onFirst pieces filled tokens digitOf afterPrefix afterPlus valueOf allDigits numberOf hexNumber decimalNumber isComment withToken registerOf fourTokens fiveTokens byTokens meaning recordOf lineAnswer usedBytes depthOf upstreamRoute
 starred-hold = (refl, (refl, (refl, (refl, (refl, (refl, (refl, (refl, (refl, (refl, (refl, ((refl, refl), tt))))))))))))

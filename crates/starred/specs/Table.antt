@@ -1,25 +1,20 @@
 -- Document 01, "Lines and routes at the edge": the starred lines, as a table over the definitions. Assumes nothing.
 use Prim.Native.Nat.{ℕ, _^_}
-use Prim.Native.Char.{Char, code}
-use Prim.Native.String as S
+use Prim.Native.String.{String}
 use mathlib.Core.Path.{_≡_}
 use mathlib.Core.List.{List, [], _∷_}
 use mathlib.Core.Option.{Option, none, some}
 use Rattle.refusal.specs.Outcome.{value}
 use Rattle.util.specs.Bits.{bitsOf}
+use Rattle.util.specs.Text.{bytesOf}
 use Rattle.route.specs.Route.{depthOf, upstreamRoute}
 use Rattle.route.specs.declared.RouteFound.the-variants.{Route}
 use Rattle.register.specs.Line.{lineAnswer, registerOf}
 use Rattle.register.specs.declared.Register.{Register}
 
--- the bytes of an ASCII text
-unfoldable pub bytes : S.String → List ℕ
-bytes S.[] = []
-bytes (S._∷_ c s) = code c ∷ bytes s
-
 pub data Row : Type 0 where
   -- a line, and the record that it gives, or none
-  line : S.String → Option Register → Row
+  line : String → Option Register → Row
   -- a word, two bit places, and the number that the bits from the one to the other are
   field : ℕ → ℕ → ℕ → ℕ → Row
   -- a route and its depth
@@ -29,7 +24,7 @@ pub data Row : Type 0 where
 
 -- what a row says
 unfoldable pub Holds : Row → Type 0
-Holds (line text answer) = lineAnswer (bytes text) ≡ value answer
+Holds (line text answer) = lineAnswer (bytesOf text) ≡ value answer
 Holds (field word low high number) = bitsOf word low high ≡ number
 Holds (depth route d) = depthOf route ≡ d
 Holds (parent route up d) = (upstreamRoute route ≡ Route up) × (depthOf up ≡ d)

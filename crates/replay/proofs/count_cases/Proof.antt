@@ -1,15 +1,15 @@
--- Each line has at least one byte, so there are no more cases than bytes.
 use Prim.Native.Nat.{_≤_, _-_}
+use mathlib.Core.Path.{_≡_}
 use lib.ListN.{length}
 use borrow.Author.Needs.{needs}
 use Rattle.replay.proofs.count_cases.Statement.{statement}
 use Rattle.replay.proofs.count_cases.Tie as tie
 
 abbrev Inv-loop : tie.InvT-loop
-Inv-loop kind text cases₀ agree₀ first₀ start₀ cases agree first start = (start ≤ length text) × (agree ≤ cases) × (cases ≤ start)
+Inv-loop of text words₀ cases₀ agree₀ first₀ held₀ start₀ words cases agree first held start = (start ≤ length text) × (agree ≤ cases) × (cases ≤ start) × (length words ≡ length words₀)
 
 abbrev μ-loop : tie.MeasureT-loop
-μ-loop kind text cases₀ agree₀ first₀ start₀ cases agree first start = length text - start
+μ-loop of text words₀ cases₀ agree₀ first₀ held₀ start₀ words cases agree first held start = length text - start
 
 loop-holds : tie.Need-loop-holds Inv-loop μ-loop
 loop-holds c = search needs
@@ -17,17 +17,20 @@ loop-holds c = search needs
 line-end-requires : tie.Need-line-end-requires Inv-loop μ-loop
 line-end-requires c κs = search needs
 
-sub-agreeing : tie.Need-sub-agreeing Inv-loop μ-loop
-sub-agreeing c = search needs
+sub-take : tie.Need-sub-take Inv-loop μ-loop
+sub-take c = search needs
 
-part-agreeing-start : tie.Need-part-agreeing-start Inv-loop μ-loop
-part-agreeing-start c = search needs
+part-take-start : tie.Need-part-take-start Inv-loop μ-loop
+part-take-start c = search needs
 
-part-agreeing-end : tie.Need-part-agreeing-end Inv-loop μ-loop
-part-agreeing-end c = search needs
+part-take-end : tie.Need-part-take-end Inv-loop μ-loop
+part-take-end c = search needs
 
-agreeing-requires : tie.Need-agreeing-requires Inv-loop μ-loop
-agreeing-requires c κs = search needs
+take-requires : tie.Need-take-requires Inv-loop μ-loop
+take-requires c κs = search needs
+
+one-requires : tie.Need-one-requires Inv-loop μ-loop
+one-requires c κs = search needs
 
 add-agree : tie.Need-add-agree Inv-loop μ-loop
 add-agree c = search needs
@@ -44,8 +47,11 @@ loop-less c = search needs
 loop-again : tie.Need-loop-again Inv-loop μ-loop
 loop-again c = search needs
 
-sub-t14 : tie.Need-sub-t14 Inv-loop μ-loop
-sub-t14 c = search needs
+sub-t19 : tie.Need-sub-t19 Inv-loop μ-loop
+sub-t19 c = search needs
+
+same-length : tie.Need-same-length Inv-loop μ-loop
+same-length c = search needs
 
 returns : tie.Need-returns Inv-loop μ-loop
 returns c = search needs
@@ -58,14 +64,16 @@ count-cases-spec =
     μ-loop
     loop-holds
     line-end-requires
-    sub-agreeing
-    part-agreeing-start
-    part-agreeing-end
-    agreeing-requires
+    sub-take
+    part-take-start
+    part-take-end
+    take-requires
+    one-requires
     add-agree
     add-cases
     first-of-requires
     loop-less
     loop-again
-    sub-t14
+    sub-t19
+    same-length
     returns)

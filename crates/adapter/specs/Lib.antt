@@ -1,0 +1,4 @@
+pub mod Adapter
+pub mod Named
+pub mod Paths
+pub mod State
