@@ -3,8 +3,8 @@ use Prim.Native.Nat.{ℕ, suc, _-_}
 use mathlib.Core.Bool.{Bool, true, false, cond, not, _&&_, _||_}
 use mathlib.Core.List.{List, [], _∷_}
 use mathlib.Core.Option.{Option, none, some}
-use lib.Dec.{ltb, leb, eqb}
-use lib.ListN.{length, take, drop}
+use lib.Dec.{leb, eqb}
+use lib.ListN.{take, drop}
 use Rattle.refusal.specs.Outcome.{Outcome, value, bind}
 use Rattle.refusal.specs.declared.Site.{Site}
 use Rattle.util.specs.Bits.{bitsOf}
@@ -15,7 +15,7 @@ use Rattle.usb4.specs.declared.AdapterType.the-variants as type
 use Rattle.register.specs.declared.Register.{Register}
 use Rattle.layout.specs.Description.{Description}
 use Rattle.survey.specs.Devices.{Adapter}
-use Rattle.adapter.specs.Named.{Named, byName, fieldOf}
+use Rattle.adapter.specs.Named.{Named, byName, wantedField}
 
 -- the third of the sorted records, not the one at offset 2
 unfoldable pub thirdValue : List Register → ℕ
@@ -94,7 +94,7 @@ narrow v = cond (leb v 65535) (some v) none
 
 unfoldable pub maxHopIn : Site → Option Named → Outcome (Option ℕ)
 maxHopIn s none = value none
-maxHopIn s (some n) = bind (fieldOf s n "Max Input HopID") (λ v. value (narrow v))
+maxHopIn s (some n) = bind (wantedField s n "Max Input HopID") (λ v. value (narrow v))
 
 -- `max_hop`: none without ADP_CS_5, 6 where it lacks the field
 unfoldable pub maxHop : List Description → Site → Adapter → Outcome (Option ℕ)

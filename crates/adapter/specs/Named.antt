@@ -1,21 +1,17 @@
 -- Registers of an adapter with the descriptions that name them; fields and flags that are wanted of them. Assumes nothing.
 use Prim.Native.Nat.{ℕ}
 use Prim.Native.String.{String}
-use mathlib.Core.Bool.{Bool, cond, not}
+use mathlib.Core.Bool.{Bool, cond}
 use mathlib.Core.List.{List, [], _∷_}
 use mathlib.Core.Option.{Option, none, some}
 use lib.Dec.{eqb}
-use Rattle.refusal.specs.Outcome.{Outcome, refused, value, bind}
-use Rattle.refusal.specs.Refusal.{refusalOf}
+use Rattle.refusal.specs.Outcome.{Outcome, refused, value}
+use Rattle.refusal.specs.Refusal.{at}
 use Rattle.refusal.specs.declared.Site.{Site}
-use Rattle.refusal.specs.declared.Fault.the-variants.{NoField}
-use Rattle.util.specs.Bits.{bitsOf}
 use Rattle.layout.specs.Description.{Description}
 use Rattle.naming.specs.Naming.{naming}
-use Rattle.naming.specs.declared.Sought.{Sought}
-use Rattle.fields.specs.Names.{alike, findField, findFlag}
-use Rattle.fields.specs.declared.FieldFound.{FieldFound}
-use Rattle.fields.specs.declared.FieldFound.the-variants.{Bits, Missing}
+use Rattle.fields.specs.Names.{alike, findField}
+use Rattle.metadata.specs.Calls.{valueIn, flagIn}
 use Rattle.register.specs.declared.Register.{Register}
 use Rattle.util.specs.Text.{bytesOf}
 
@@ -54,19 +50,15 @@ unfoldable pub byOffset : ℕ → List Register → Option Register
 byOffset o [] = none
 byOffset o (r ∷ rs) = cond (eqb (r .offset) o) (some r) (byOffset o rs)
 
--- bits of a value, or 6 where the field is missing
-unfoldable pub valueOf : Site → ℕ → FieldFound → Outcome ℕ
-valueOf s v Missing = refusalOf (NoField s)
-valueOf s v (Bits l h) = value (bitsOf v l h)
+-- a refusal that comes alone, with device place and adapter number
+unfoldable pub sited : {A : Type 0} → Site → Outcome A → Outcome A
+sited s (refused n vs) = refused n (at s)
+sited s (value a) = value a
 
 -- a field that is wanted of a named register: 6 where it lacks it
-unfoldable pub fieldOf : Site → Named → String → Outcome ℕ
-fieldOf s n name = valueOf s (n .register .value) (findField (bytesOf name) (n .description .fields))
-
-unfoldable pub isSet : ℕ → Bool
-isSet v = not (eqb v 0)
+unfoldable pub wantedField : Site → Named → String → Outcome ℕ
+wantedField s n name = sited s (valueIn (n .register .value) (findField (bytesOf name) (n .description .fields)))
 
 -- a flag: 6 where the register is nameless, lacks it, or it isn't one bit
-unfoldable pub flagIn : Site → Register → Option Description → String → Outcome Bool
-flagIn s r none name = refusalOf (NoField s)
-flagIn s r (some d) name = bind (valueOf s (r .value) (findFlag (bytesOf name) (d .fields))) (λ v. value (isSet v))
+unfoldable pub wantedFlag : Site → Register → Option Description → String → Outcome Bool
+wantedFlag s r d name = sited s (flagIn (r .value) (bytesOf name) d)

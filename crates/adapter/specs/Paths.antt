@@ -9,7 +9,7 @@ use Rattle.refusal.specs.declared.Site.{Site}
 use Rattle.register.specs.declared.Register.{Register}
 use Rattle.layout.specs.Description.{Description}
 use Rattle.survey.specs.Devices.{Adapter}
-use Rattle.adapter.specs.Named.{Named, pathSpace, named, fieldOf, flagIn}
+use Rattle.adapter.specs.Named.{pathSpace, named, wantedField, wantedFlag}
 use Rattle.adapter.specs.Adapter.{kindOf, kindNumber, minHop}
 
 -- a valid path entry: its HopID, and where it leads
@@ -23,13 +23,13 @@ unfoldable pub entryIn : Site → Register → Option Description → Bool → O
 entryIn s r none valid = value none
 entryIn s r (some d) false = value none
 entryIn s r (some d) true =
-    bind (fieldOf s (record { register = r; description = d }) "Output HopID")
-    (λ hop. bind (fieldOf s (record { register = r; description = d }) "Output Adapter")
+    bind (wantedField s (record { register = r; description = d }) "Output HopID")
+    (λ hop. bind (wantedField s (record { register = r; description = d }) "Output Adapter")
     (λ out. value (some (record { inHop = r .offset / 2; outAdapter = out % 256; outHop = hop % 65536 }))))
 
 -- `PathEntry::new`: 6 where Valid cannot be read
 unfoldable pub entryOf : Site → Register → Option Description → Outcome (Option PathEntry)
-entryOf s r d = bind (flagIn s r d "Valid") (λ valid. entryIn s r d valid)
+entryOf s r d = bind (wantedFlag s r d "Valid") (λ valid. entryIn s r d valid)
 
 unfoldable pub withEntry : Option PathEntry → List PathEntry → List PathEntry
 withEntry none es = es

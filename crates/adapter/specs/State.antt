@@ -10,6 +10,7 @@ use Rattle.refusal.specs.Refusal.{refusalOf}
 use Rattle.refusal.specs.declared.Site.{Site}
 use Rattle.refusal.specs.declared.Fault.the-variants.{GenTOffset}
 use Rattle.usb4.specs.Codes.{laneStateOf, speedOf}
+use Rattle.usb4.specs.Numbers.{typeNumber, stateNumber}
 use Rattle.usb4.specs.declared.AdapterType.{AdapterType}
 use Rattle.usb4.specs.declared.AdapterType.the-variants as type
 use Rattle.usb4.specs.declared.State.{State}
@@ -19,7 +20,7 @@ use Rattle.usb4.specs.declared.Speed.the-variants as speed
 use Rattle.register.specs.declared.Register.{Register}
 use Rattle.layout.specs.Description.{Description}
 use Rattle.survey.specs.Devices.{Adapter}
-use Rattle.adapter.specs.Named.{Named, adapterSpace, named, byName, byOffset, fieldOf, flagIn}
+use Rattle.adapter.specs.Named.{Named, adapterSpace, named, byName, byOffset, wantedField, wantedFlag}
 use Rattle.adapter.specs.Adapter.{kindOf, kindNumber, isLane, registersOf}
 
 -- the second flag is read only if the first is set
@@ -32,21 +33,21 @@ enabledIf b = cond b state.Enabled state.Disabled
 -- one flag, or two, of a register by name; Unknown without the register
 unfoldable pub byFlag : Site → String → Option Named → Outcome State
 byFlag s f none = value state.Unknown
-byFlag s f (some n) = bind (flagIn s (n .register) (some (n .description)) f) (λ b. value (enabledIf b))
+byFlag s f (some n) = bind (wantedFlag s (n .register) (some (n .description)) f) (λ b. value (enabledIf b))
 
 unfoldable pub byFlags : Site → String → String → Option Named → Outcome State
 byFlags s f g none = value state.Unknown
-byFlags s f g (some n) = bind (bothSet (flagIn s (n .register) (some (n .description)) f) (flagIn s (n .register) (some (n .description)) g)) (λ b. value (enabledIf b))
+byFlags s f g (some n) = bind (bothSet (wantedFlag s (n .register) (some (n .description)) f) (wantedFlag s (n .register) (some (n .description)) g)) (λ b. value (enabledIf b))
 
 unfoldable pub laneState : Site → Option Named → Outcome State
 laneState s none = value state.Unknown
-laneState s (some n) = bind (fieldOf s n "Adapter State") (λ v. value (laneStateOf v))
+laneState s (some n) = bind (wantedField s n "Adapter State") (λ v. value (laneStateOf v))
 
 module _ (ds : List Description) (s : Site) (k : ℕ) (rs : List Register) where
   -- whether a Gen T port is enabled: the register at its offset, if there is one, by PE and then V
   unfoldable pub portSet : Option Register → Outcome Bool
   portSet none = value false
-  portSet (some r) = bothSet (flagIn s r (named ds adapterSpace k r) "PE") (flagIn s r (named ds adapterSpace k r) "V")
+  portSet (some r) = bothSet (wantedFlag s r (named ds adapterSpace k r) "PE") (wantedFlag s r (named ds adapterSpace k r) "V")
 
   -- ports from p on, n of them: port p looks at offset cap + 3 + 2 × p, 8 past 65,535; an enabled port ends it
   unfoldable pub ports : ℕ → ℕ → ℕ → Outcome State
@@ -57,7 +58,7 @@ module _ (ds : List Description) (s : Site) (k : ℕ) (rs : List Register) where
 
   unfoldable pub genTState : Option Named → Outcome State
   genTState none = value state.Unknown
-  genTState (some n) = bind (fieldOf s n "Gen T Port Count") (λ c. ports (n .register .offset) 0 (c % 65536))
+  genTState (some n) = bind (wantedField s n "Gen T Port Count") (λ c. ports (n .register .offset) 0 (c % 65536))
 
 -- `parse_state`, by the kind
 unfoldable pub stateOf : List Description → Site → Adapter → AdapterType → Outcome State
@@ -93,13 +94,13 @@ hasSpeed state.Cld = false
 
 unfoldable pub speedIn : Site → Option Named → Outcome Speed
 speedIn s none = value speed.Unknown
-speedIn s (some n) = bind (fieldOf s n "Current Link Speed") (λ v. value (speedOf v))
+speedIn s (some n) = bind (wantedField s n "Current Link Speed") (λ v. value (speedOf v))
 
 -- `link_speed` of an adapter in a state
 unfoldable pub linkSpeed : List Description → Site → Adapter → State → Outcome Speed
 linkSpeed ds s a st = cond (isLane a && hasSpeed st) (speedIn s (byName ds (kindNumber a) "LANE_ADP_CS_1" (registersOf a))) (value speed.Unknown)
 
--- `is_enabled`: a host interface always, another protocol adapter by its state
+-- `is_protocol`, by the kind
 unfoldable pub isProtocol : AdapterType → Bool
 isProtocol type.Unknown = false
 isProtocol type.Inactive = false
@@ -113,3 +114,7 @@ isProtocol type.Usb3Down = true
 isProtocol type.Usb3Up = true
 isProtocol type.Usb3GenTDown = true
 isProtocol type.Usb3GenTUp = true
+
+-- `is_enabled`: a host interface always, another protocol adapter by its state
+unfoldable pub isEnabled : AdapterType → State → Bool
+isEnabled k st = eqb (typeNumber k) (typeNumber type.HostInterface) || (isProtocol k && eqb (stateNumber st) (stateNumber state.Enabled))

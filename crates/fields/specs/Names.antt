@@ -20,7 +20,7 @@ alike [] (b ∷ ys) = false
 alike (a ∷ xs) [] = false
 alike (a ∷ xs) (b ∷ ys) = eqb (lower a) (lower b) && alike xs ys
 
--- the register group at i has the name
+-- the register group at i has the name; the word at i is taken as its head
 unfoldable pub nameIs : List ℕ → ℕ → List ℕ → Bool
 nameIs t i name = isRegister t i && alike (described t i .name) name
 

@@ -43,7 +43,7 @@ fn same_name(t: &[u32], p: usize, n: u32, name: &[u8]) -> bool
     true
 }
 
-// Whether the register group at a place has the name.
+// Whether the register group at a place has the name. Where no register's head stands, the word there is taken as one.
 pub fn name_is(descriptions: &[u32], place: usize, name: &[u8]) -> bool
     ensures { λ r. ⌜ r ≡ nameIs (now (descriptions .entry)) place (now (name .entry)) ⌝ }
 {
@@ -74,7 +74,7 @@ fn field_is(t: &[u32], i: usize, name: &[u8]) -> bool
     same_name(t, i + 1 + layout::name_words(n), s, name)
 }
 
-// The first field with the name, of those behind the register group at a place. The words need not be well formed.
+// The first field with the name, of those behind the register group at a place. The words need not be well formed; where no register's head stands, the word there is taken as one.
 pub fn find_field(descriptions: &[u32], place: usize, name: &[u8]) -> FieldFound
     ensures { λ r. ⌜ r ≡ findField (now (name .entry)) (fieldsBehind (now (descriptions .entry)) place) ⌝ }
 {

@@ -1,7 +1,7 @@
 -- Our descriptions: the words are accepted and are the table of the document; and some answers over them. Assumes nothing.
 use Prim.Native.Nat.{ℕ}
 use mathlib.Core.Path.{_≡_, refl}
-use mathlib.Core.List.{[], _∷_, _++_}
+use mathlib.Core.List.{List, [], _∷_, _++_}
 use mathlib.Core.Option.{none, some}
 use Rattle.refusal.specs.Outcome.{refused, value, bind}
 use Rattle.util.specs.Bits.{bitsOf}
@@ -13,7 +13,24 @@ use Rattle.naming.specs.declared.Sought.{Sought}
 use Rattle.fields.specs.Names.{lower, alike, fieldIs, findField}
 use Rattle.metadata.specs.Calls.{at, valueIn, fieldIn}
 use Rattle.util.specs.Text.{bytesOf}
-use Rattle.metadata.specs.Ours.{bitsNamed, plain, capped, ours, oursWords}
+use Rattle.metadata.specs.Ours.{bitsNamed, plain, capped, ours}
+
+-- our descriptions as words
+abbrev oursWords : List ℕ
+oursWords =
+    269156353 ∷ 0 ∷ 0 ∷ 1414877010 ∷ 1130320453 ∷ 3235667 ∷ 607391744 ∷ 1953722453
+    ∷ 1835099506 ∷ 1633960224 ∷ 1919251568 ∷ 659294976 ∷ 544760141 ∷ 1885430849 ∷ 7497076 ∷ 336068613
+    ∷ 0 ∷ 0 ∷ 1599095873 ∷ 895439683 ∷ 539496192 ∷ 544760141 ∷ 1970302537 ∷ 1866997876
+    ∷ 4475248 ∷ 369950721 ∷ 65536 ∷ 4100 ∷ 1162756428 ∷ 1346650463 ∷ 1599292255 ∷ 49
+    ∷ 676073984 ∷ 1920103747 ∷ 544501349 ∷ 1802398028 ∷ 1701860128 ∷ 25701 ∷ 762580224 ∷ 1885430849
+    ∷ 544367988 ∷ 1952543827 ∷ 101 ∷ 369819648 ∷ 262144 ∷ 4144 ∷ 1599095873 ∷ 1130319940
+    ∷ 3170131 ∷ 796393984 ∷ 17729 ∷ 805044736 ∷ 17750 ∷ 369950720 ∷ 262144 ∷ 4288
+    ∷ 1599095873 ∷ 1162429264 ∷ 1599292255 ∷ 48 ∷ 805044736 ∷ 17744 ∷ 370147328 ∷ 262144
+    ∷ 4864 ∷ 1599095873 ∷ 859984725 ∷ 1599620959 ∷ 811553603 ∷ 796393728 ∷ 86 ∷ 805044736
+    ∷ 17744 ∷ 403243008 ∷ 0 ∷ 0 ∷ 1213481296 ∷ 1599292255 ∷ 48 ∷ 539495424
+    ∷ 1886680399 ∷ 1210086517 ∷ 1145663599 ∷ 633343488 ∷ 1886680399 ∷ 1092646005 ∷ 1953522020 ∷ 29285
+    ∷ 805045504 ∷ 1768710486 ∷ 100
+    ∷ []
 
 pub ours-read : readDescriptions oursWords ≡ value ours
 unfolding byteAt bytesFrom nameBytes sizeOf headsFrom keep isRegister registers had fieldOf fieldsOf fieldsBehind described descriptionsOf goodByte goodBytes goodName zeroUnless goodHead goodRange whole goodRegister goodField goodGroup firstBad checkOf readDescriptions bind bytesOf bitsNamed plain capped ours

@@ -1,6 +1,6 @@
 -- What the calls on a list of description words answer: 3 first, then module 4. Assumes nothing.
 use Prim.Native.Nat.{ℕ}
-use mathlib.Core.Bool.{cond}
+use mathlib.Core.Bool.{Bool, cond, not}
 use mathlib.Core.List.{List, [], _∷_}
 use mathlib.Core.Option.{Option, none, some}
 use lib.Dec.{eqb}
@@ -11,7 +11,7 @@ use Rattle.layout.specs.Layout.{nameWords, nameAt}
 use Rattle.layout.specs.Description.{Description}
 use Rattle.description.specs.Rules.{readDescriptions}
 use Rattle.naming.specs.Naming.{naming, placeOf}
-use Rattle.fields.specs.Names.{findField}
+use Rattle.fields.specs.Names.{findField, findFlag}
 use Rattle.naming.specs.declared.Sought.{Sought}
 use Rattle.fields.specs.declared.FieldFound.{FieldFound}
 use Rattle.fields.specs.declared.FieldFound.the-variants.{Bits, Missing}
@@ -55,6 +55,14 @@ valueIn v (Bits s e) = value (bitsOf v s e)
 unfoldable pub fieldIn : ℕ → List ℕ → Option Description → Outcome ℕ
 fieldIn v name none = refused 6 []
 fieldIn v name (some d) = valueIn v (findField name (d .fields))
+
+-- a flag that is wanted of a register: 6 where it is nameless, lacks it or it isn't one bit; else whether its bit is set
+unfoldable pub isSet : Outcome ℕ → Outcome Bool
+isSet o = bind o (λ v. value (not (eqb v 0)))
+
+unfoldable pub flagIn : ℕ → List ℕ → Option Description → Outcome Bool
+flagIn v name none = refused 6 []
+flagIn v name (some d) = isSet (valueIn v (findFlag name (d .fields)))
 
 unfoldable pub fieldAnswer : List ℕ → ℕ → ℕ → List ℕ → Outcome ℕ
 fieldAnswer t p v name = bind (readDescriptions t) (λ ds. fieldIn v name (at p ds))

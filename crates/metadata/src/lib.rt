@@ -2,7 +2,9 @@
 ghost use mathlib.Core.Path.{_≡_};
 ghost use Rattle.layout.specs.Description.{descriptionsOf};
 ghost use Rattle.metadata.specs.Calls.{describeAnswer, describedOutcome, at, nameAnswer, fieldIn, fieldAnswer, fieldOutcome};
-ghost use Rattle.metadata.specs.Ours.{oursWords};
+ghost use Rattle.refusal.specs.Outcome.{value};
+ghost use Rattle.description.specs.Rules.{readDescriptions};
+ghost use Rattle.metadata.specs.Ours.{ours};
 ghost use Rattle.metadata.specs.Work.{standing};
 use description::Checked;
 use fields::FieldFound;
@@ -96,7 +98,7 @@ pub fn field(descriptions: &[u32], place: usize, value: u32, name: &[u8]) -> Fie
 }
 
 // Our own descriptions, from tb_regs.h.
-pub const OURS: [u32; 91] = [
+const OURS: [u32; 91] = [
     269156353,
     0,
     0,
@@ -191,7 +193,7 @@ pub const OURS: [u32; 91] = [
 ];
 
 pub fn ours() -> [u32; 91]
-    ensures { λ r. ⌜ r ≡ oursWords ⌝ }
+    ensures { λ r. ⌜ readDescriptions r ≡ value ours ⌝ }
 {
     OURS
 }

@@ -25,7 +25,7 @@ upstreamRoute r = cond (eqb (depthOf r) 0) route.None (route.Route (r % 2 ^ (rou
 unfoldable pub downstreamRoute : ℕ → ℕ → RouteFound
 downstreamRoute r a = cond (eqb (depthOf r) 8) route.None (route.Route (r + a * 2 ^ (routeShift * depthOf r)))
 
--- a device one deeper, whose lower bytes are the route: its last byte is the adapter
+-- a device one deeper, whose lower bytes are the route: its last byte is the adapter; that both are of one domain is the caller's to see
 unfoldable pub downstreamAdapter : ℕ → ℕ → AdapterFound
 downstreamAdapter r device =
     cond (eqb (depthOf device) (depthOf r + 1) && eqb r (device % 2 ^ (routeShift * depthOf r)))

@@ -39,7 +39,7 @@ fn unit(depth: u32) -> u64
     1u64 << (ROUTE_SHIFT * depth)
 }
 
-// The route of the router before the last; none at depth 0, where the Rust's subtraction overflows.
+// The route of the router before the last; none at depth 0, where the Rust's subtraction overflows. That the adapter is an upstream lane is the caller's to see.
 pub fn upstream_route(route: u64) -> RouteFound
     ensures { λ r. ⌜ r ≡ upstreamRoute route ⌝ }
 {
@@ -50,7 +50,7 @@ pub fn upstream_route(route: u64) -> RouteFound
     RouteFound::Route(route % unit(d - 1))
 }
 
-// The route of the router behind an adapter; none at depth 8, where the Rust's shift overflows.
+// The route of the router behind an adapter; none at depth 8, where the Rust's shift overflows. That the adapter is a lane is the caller's to see.
 pub fn downstream_route(route: u64, adapter: u8) -> RouteFound
     ensures { λ r. ⌜ r ≡ downstreamRoute route adapter ⌝ }
 {
@@ -61,7 +61,7 @@ pub fn downstream_route(route: u64, adapter: u8) -> RouteFound
     RouteFound::Route(route + (adapter as u64) * unit(d))
 }
 
-// The adapter of the router at `route` behind which `device` hangs; none where that is no router right below.
+// The adapter of the router at `route` behind which `device` hangs; none where it doesn't hang right below. That both are of one domain is the caller's to see.
 pub fn downstream_adapter(route: u64, device: u64) -> AdapterFound
     ensures { λ r. ⌜ r ≡ downstreamAdapter route device ⌝ }
 {

@@ -50,8 +50,8 @@ speedOf code =
     (cond (eqb code 2) speed.Gen4 speed.Unknown))
 
 -- device kinds, by their number in the order of `Kind`
-unfoldable pub kindOf : ℕ → Kind
-kindOf code =
+unfoldable pub deviceKindOf : ℕ → Kind
+deviceKindOf code =
     cond (eqb code 0) kind.Domain
     (cond (eqb code 1) kind.Router
     (cond (eqb code 2) kind.Xdomain

@@ -43,13 +43,13 @@ speedNumber speed.Gen2 = 1
 speedNumber speed.Gen3 = 2
 speedNumber speed.Gen4 = 3
 
-abbrev pub kindNumber : Kind → ℕ
-kindNumber kind.Domain = 0
-kindNumber kind.Router = 1
-kindNumber kind.Xdomain = 2
-kindNumber kind.Retimer = 3
-kindNumber kind.Service = 4
-kindNumber kind.Unknown = 5
+abbrev pub deviceKindNumber : Kind → ℕ
+deviceKindNumber kind.Domain = 0
+deviceKindNumber kind.Router = 1
+deviceKindNumber kind.Xdomain = 2
+deviceKindNumber kind.Retimer = 3
+deviceKindNumber kind.Service = 4
+deviceKindNumber kind.Unknown = 5
 
 abbrev pub tunnelNumber : TunnelType → ℕ
 tunnelNumber tunnelType.Usb3 = 0

@@ -1,6 +1,6 @@
 ghost use mathlib.Core.Path.{_≡_};
-ghost use Rattle.usb4.specs.Codes.{typeOf, laneStateOf, speedOf, kindOf};
-ghost use Rattle.usb4.specs.Numbers.{typeNumber, stateNumber, speedNumber, kindNumber, tunnelNumber};
+ghost use Rattle.usb4.specs.Codes.{typeOf, laneStateOf, speedOf, deviceKindOf};
+ghost use Rattle.usb4.specs.Numbers.{typeNumber, stateNumber, speedNumber, deviceKindNumber, tunnelNumber};
 
 // A route has eight bits for each router on the way.
 pub const ROUTE_SHIFT: u32 = 8;
@@ -197,7 +197,7 @@ pub fn speed_of(code: u32) -> Speed
 
 // The device kind of a number; Unknown from 5 on.
 pub fn device_kind(number: u32) -> Kind
-    ensures { λ r. ⌜ r ≡ kindOf number ⌝ }
+    ensures { λ r. ⌜ r ≡ deviceKindOf number ⌝ }
 {
     if number == 0 {
         return Kind::Domain;
@@ -265,7 +265,7 @@ pub fn speed_number(s: Speed) -> u32
 }
 
 pub fn kind_number(k: Kind) -> u32
-    ensures { λ r. ⌜ r ≡ kindNumber k ⌝ }
+    ensures { λ r. ⌜ r ≡ deviceKindNumber k ⌝ }
 {
     match k {
         Kind::Domain => 0,
