@@ -4,6 +4,7 @@
 mod answer;
 mod case;
 mod named;
+mod routes;
 mod rule;
 
 ghost use Prim.Native.Nat.{_<_, _≤_};
@@ -20,9 +21,11 @@ enum Kind {
     Rule,
 }
 
-// A file's cases: each by itself, or questions about sets of descriptions.
+// A file's cases: each by itself, routes, or questions about sets of descriptions.
 enum Cases {
     Each(Kind),
+    Routes,
+    Beneath,
     Named,
 }
 
@@ -90,6 +93,14 @@ fn take(cases: Cases, line: &[u8], words: &mut [u32], held: usize) -> Step {
         Cases::Named => named::take_line(line, words, held),
         Cases::Each(kind) => Step {
             agrees: agreeing(kind, line),
+            held: 0,
+        },
+        Cases::Routes => Step {
+            agrees: routes::route_agrees(line),
+            held: 0,
+        },
+        Cases::Beneath => Step {
+            agrees: routes::beneath_agrees(line),
             held: 0,
         },
     }
@@ -170,4 +181,6 @@ fn main() {
     replay(b"rules", Cases::Each(Kind::Rule));
     replay(b"names", Cases::Named);
     replay(b"places", Cases::Named);
+    replay(b"routes", Cases::Routes);
+    replay(b"beneath", Cases::Beneath);
 }

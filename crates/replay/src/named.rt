@@ -39,7 +39,7 @@ fn number(w: u64) -> u32 {
     (w % 4294967296) as u32
 }
 
-fn number_at(line: &[u8], at: usize) -> u32 {
+pub fn number_at(line: &[u8], at: usize) -> u32 {
     number(word(line, at))
 }
 
