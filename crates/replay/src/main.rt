@@ -6,6 +6,7 @@ mod case;
 mod named;
 mod routes;
 mod rule;
+mod surveys;
 
 ghost use Prim.Native.Nat.{_<_, _≤_};
 ghost use lib.ListN.{length};
@@ -26,6 +27,8 @@ enum Cases {
     Each(Kind),
     Routes,
     Beneath,
+    Surveys,
+    Groups,
     Named,
 }
 
@@ -101,6 +104,14 @@ fn take(cases: Cases, line: &[u8], words: &mut [u32], held: usize) -> Step {
         },
         Cases::Beneath => Step {
             agrees: routes::beneath_agrees(line),
+            held: 0,
+        },
+        Cases::Surveys => Step {
+            agrees: surveys::survey_line(line, words),
+            held: 0,
+        },
+        Cases::Groups => Step {
+            agrees: surveys::group_line(line, words),
             held: 0,
         },
     }
@@ -183,4 +194,6 @@ fn main() {
     replay(b"places", Cases::Named);
     replay(b"routes", Cases::Routes);
     replay(b"beneath", Cases::Beneath);
+    replay(b"surveys", Cases::Surveys);
+    replay(b"groups", Cases::Groups);
 }

@@ -90,7 +90,7 @@ fn load(line: &[u8], at: usize, words: &mut [u32]) -> usize {
 }
 
 // Puts the words from `at` on into `words`, again and again until it is full.
-fn fill(line: &[u8], at: usize, words: &mut [u32]) {
+pub fn fill(line: &[u8], at: usize, words: &mut [u32]) {
     let mut a = at;
     let mut n = 0;
     while n < words.len() {

@@ -5,13 +5,17 @@ use mathlib.Core.Path.{_≡_, refl, _∙_, ap, sym}
 use mathlib.Core.Bool.{Bool, true, false, cond, not, _&&_, _||_, false≢true}
 use mathlib.Core.List.{List, [], _∷_}
 use lib.ListN.{length, getD, drop, drop-of-length-le, length-drop}
-use lib.Seq.{drop-cons}
+use lib.Seq.{drop-cons, drop-drop, getD-drop}
 use native.Mathlib.Numerals.{add-one}
 use lib.Dec.{eqb, leb}
 use borrow.Author.Tests.{eq-eqb, ne-eqb, lt-ltb, le-ltb}
 use Rattle.refusal.specs.Outcome.{refused, value}
 use Rattle.layout.specs.Layout.{bits, low, kind}
 use Rattle.survey.specs.Rules.{maxWords, start, checkOf, goodDevice, goodAdapter, goodRegister, afterDevice, afterAdapter, afterRegister, mayStand, stepOf, stepBy, sizeBy, onStep, firstBad}
+use Rattle.survey.specs.Places.{isDevice, headsFrom, deviceHeads, groupAt}
+use Rattle.survey.specs.Work.{headsAt, NextHead}
+use Rattle.survey.specs.declared.Placed.the-variants as placed
+use native.Mathlib.Decide.{decLt}
 use Rattle.survey.specs.declared.Under.{Under}
 use Rattle.survey.specs.declared.Step.the-variants.{On, Broken}
 use Rattle.survey.specs.Words.{isLong, sizeOf, group, cut, groupsOf}
@@ -137,3 +141,66 @@ size-pos w = step (isLong w)
     step : (b : Bool) → (1 ≤ cond b 4 1) × (cond b 4 1 ≤ 4)
     step true = (omega arith, omega arith)
     step false = (omega arith, omega arith)
+
+-- a device takes four words
+device-size : (w : ℕ) → kind w ≡ 3 → sizeOf w ≡ 4
+unfolding sizeOf isLong
+device-size w k = simp (eq-eqb (kind w) 3 k)
+
+-- device heads by places
+module _ (t : List ℕ) (i : ℕ) where
+  pub heads-end : length t ≤ i → headsAt t i ≡ []
+  unfolding headsFrom groupsOf
+  heads-end h = ap (λ l. headsFrom i (groupsOf l)) (drop-of-length-le t h)
+
+  module _ (here : i < length t) where
+    pub heads-cut : length t - i < sizeOf (getD t i 0) → headsAt t i ≡ []
+    unfolding headsFrom isDevice
+    heads-cut h = ap (λ gs. headsFrom i gs) (group-cut t i here h)
+
+    -- a whole group: its head word and the groups after it
+    whole-heads : sizeOf (getD t i 0) ≤ length t - i → headsAt t i ≡ cond (eqb (kind (getD t i 0)) 3) (i ∷ headsAt t (i + sizeOf (getD t i 0))) (headsAt t (i + sizeOf (getD t i 0)))
+    unfolding headsFrom isDevice sizeBy
+    whole-heads h = step (isLong (getD t i 0)) refl
+      where
+        step : (b : Bool) → isLong (getD t i 0) ≡ b → headsAt t i ≡ cond (eqb (kind (getD t i 0)) 3) (i ∷ headsAt t (i + sizeOf (getD t i 0))) (headsAt t (i + sizeOf (getD t i 0)))
+        step true e = ap (λ gs. headsFrom i gs) (long-at t i here e (omega (arith, size-long t i here e)) ∙ ap (λ n. group (getD t i 0) (getD t (i + 1) 0) (getD t (i + 2) 0) (getD t (i + 3) 0) ∷ groupsOf (drop (i + n) t)) (sym (size-long t i here e)))
+        step false e = ap (λ gs. headsFrom i gs) (short-at t i here e ∙ ap (λ n. group (getD t i 0) 0 0 0 ∷ groupsOf (drop (i + n) t)) (sym (size-short t i here e)))
+
+    pub heads-device : kind (getD t i 0) ≡ 3 → sizeOf (getD t i 0) ≤ length t - i → (sizeOf (getD t i 0) ≡ 4) × (headsAt t i ≡ i ∷ headsAt t (i + 4))
+    heads-device k h =
+        let s = device-size (getD t i 0) k in
+        (s, whole-heads h ∙ ap (λ b. cond b (i ∷ headsAt t (i + sizeOf (getD t i 0))) (headsAt t (i + sizeOf (getD t i 0)))) (eq-eqb (kind (getD t i 0)) 3 k) ∙ ap (λ n. i ∷ headsAt t (i + n)) s)
+
+    pub heads-other : (kind (getD t i 0) ≡ 3 → ⊥) → sizeOf (getD t i 0) ≤ length t - i → headsAt t i ≡ headsAt t (i + sizeOf (getD t i 0))
+    heads-other n h = whole-heads h ∙ ap (λ b. cond b (i ∷ headsAt t (i + sizeOf (getD t i 0))) (headsAt t (i + sizeOf (getD t i 0)))) (ne-eqb (kind (getD t i 0)) 3 n)
+
+-- a device's group, from where its heads are known
+module _ (t : List ℕ) (k at : ℕ) (so-far : drop k (deviceHeads t) ≡ headsAt t at) where
+  pub no-group : (p : ℕ) → k ≤ p → length t ≤ at → placed.Nowhere ≡ groupAt t p
+  unfolding groupAt
+  no-group p h l =
+      let n : length (deviceHeads t) ≤ p = omega (arith, ap length (so-far ∙ heads-end t at l), length-drop k (deviceHeads t)) in
+      simp (le-ltb p (length (deviceHeads t)) n)
+
+  module _ (is-head : headsAt t at ≡ at ∷ headsAt t (at + 4)) where
+    pub next-group : drop (k + 1) (deviceHeads t) ≡ headsAt t (at + 4)
+    next-group = sym (drop-drop 1 k (deviceHeads t)) ∙ ap (λ l. drop 1 l) (so-far ∙ is-head)
+
+    -- the first of the heads from e on, or the length
+    first-head : (e : ℕ) → NextHead t (at + 4) e → getD (headsAt t (at + 4)) 0 (length t) ≡ e
+    first-head e n = go (decLt e (length t))
+      where
+        go : Dec (e < length t) → getD (headsAt t (at + 4)) 0 (length t) ≡ e
+        go (yes h) = ap (λ l. getD l 0 (length t)) (n .same ∙ n .head h)
+        go (no h) = ap (λ l. getD l 0 (length t)) (n .same ∙ heads-end t e (omega arith)) ∙ omega (arith, n .within)
+
+    pub this-group : (e : ℕ) → NextHead t (at + 4) e → placed.Group at e ≡ groupAt t k
+    unfolding groupAt
+    this-group e n =
+        let z : k + 0 ≡ k = omega arith in
+        let o : k + 1 ≡ suc k = omega arith in
+        let l : k < length (deviceHeads t) = omega (arith, ap length (so-far ∙ is-head), length-drop k (deviceHeads t)) in
+        let a : getD (deviceHeads t) k 0 ≡ at = ap (λ m. getD (deviceHeads t) m 0) (sym z) ∙ sym (getD-drop k (deviceHeads t) 0 0) ∙ ap (λ x. getD x 0 0) (so-far ∙ is-head) in
+        let b : getD (deviceHeads t) (suc k) (length t) ≡ e = ap (λ m. getD (deviceHeads t) m (length t)) (sym o) ∙ sym (getD-drop k (deviceHeads t) 1 (length t)) ∙ ap (λ x. getD x 1 (length t)) (so-far ∙ is-head) ∙ first-head e n in
+        simp (lt-ltb k (length (deviceHeads t)) l, a, b)

@@ -1,3 +1,5 @@
 pub mod Devices
+pub mod Places
 pub mod Rules
 pub mod Words
+pub mod Work

@@ -1,0 +1,83 @@
+use Prim.Native.Nat.{_≤_, _<_, _-_, _+_}
+use mathlib.Core.Path.{_≡_, _∙_, sym, ap, refl, subst}
+use native.Mathlib.Omega.{arith}
+use native.Mathlib.Nat.{le-refl}
+use borrow.Author.Needs.{needs}
+use denote.Ref.{now}
+use lib.ListN.{length, getD}
+use Rattle.survey.specs.Work.{headsAt}
+use Rattle.survey.proofs.Laws.{heads-end, heads-cut, heads-device, heads-other, size-pos}
+use Rattle.survey.proofs.next_device.Statement.{statement}
+use Rattle.survey.proofs.next_device.Tie as tie
+
+abbrev Inv-loop : tie.InvT-loop
+Inv-loop survey from i₀ i = (i ≤ length survey) × (headsAt survey from ≡ headsAt survey i)
+
+abbrev μ-loop : tie.MeasureT-loop
+μ-loop survey from i₀ i = length survey - i
+
+-- src/lib.rt:202:5
+loop-holds : tie.Need-loop-holds Inv-loop μ-loop
+loop-holds c = (omega (arith, c .before .pre), refl)
+
+-- src/lib.rt:203:17
+mul-w : tie.Need-mul-w Inv-loop μ-loop
+mul-w c = omega (arith, c .before .before .before .good)
+
+-- src/lib.rt:203:17
+shared-slice-read-w : tie.Need-shared-slice-read-w Inv-loop μ-loop
+shared-slice-read-w c = omega arith
+
+-- src/lib.rt:204:13
+group-size-requires : tie.Need-group-size-requires Inv-loop μ-loop
+group-size-requires c κs = search needs
+
+-- src/lib.rt:205:12
+sub-if1 : tie.Need-sub-if1 Inv-loop μ-loop
+sub-if1 c = omega arith
+
+-- src/lib.rt:206:13
+returns : tie.Need-returns Inv-loop μ-loop
+returns c = let t = now (c .before .before .before .before .before .before .args .survey) in
+    record { within = le-refl (length t); room = λ h. absurd (omega arith); same = c .before .before .before .before .loop .inv .1 ∙ heads-cut t (c .before .before .before .before .loop .i) (c .before .before .before .loop-test .taken) (subst (λ n. length t - c .before .before .before .before .loop .i < n) (c .before .group-size .ensures) (c .if1 .taken)) ∙ sym (heads-end t (length t) (le-refl (length t))); head = λ h. absurd (omega arith) }
+
+-- src/lib.rt:209:13
+returns-2 : tie.Need-returns-2 Inv-loop μ-loop
+returns-2 c = let t = now (c .before .before .before .before .before .before .before .args .survey) in
+    let d = heads-device t (c .before .before .before .before .before .loop .i) (c .before .before .before .before .loop-test .taken) (c .if2 .taken) (subst (λ n. n ≤ length (now (c .before .before .before .before .before .before .before .args .survey)) - c .before .before .before .before .before .loop .i) (c .before .before .group-size .ensures) (c .before .if1 .left)) in
+    record { within = c .before .before .before .before .before .loop .inv .0; room = λ h. omega (arith, d .0, c .before .before .group-size .ensures, c .before .if1 .left); same = c .before .before .before .before .before .loop .inv .1; head = λ h. d .1 }
+
+-- src/lib.rt:211:9
+add-i : tie.Need-add-i Inv-loop μ-loop
+add-i c = omega (arith, c .before .before .before .before .before .before .before .good, c .before .if1 .left)
+
+-- src/lib.rt:202:5
+loop-less : tie.Need-loop-less Inv-loop μ-loop
+loop-less c = omega (arith, size-pos (getD (now (c .before .before .before .before .before .before .before .args .survey)) (c .before .before .before .before .before .loop .i) 0), c .before .before .group-size .ensures, c .before .before .before .before .loop-test .taken)
+
+-- src/lib.rt:202:5
+loop-again : tie.Need-loop-again Inv-loop μ-loop
+loop-again c = let t = now (c .before .before .before .before .before .before .before .args .survey) in
+    (omega (arith, c .before .if1 .left, c .before .before .before .before .loop-test .taken), c .before .before .before .before .before .loop .inv .1 ∙ heads-other t (c .before .before .before .before .before .loop .i) (c .before .before .before .before .loop-test .taken) (c .if2 .left) (subst (λ n. n ≤ length (now (c .before .before .before .before .before .before .before .args .survey)) - c .before .before .before .before .before .loop .i) (c .before .before .group-size .ensures) (c .before .if1 .left)) ∙ ap (λ n. headsAt t (c .before .before .before .before .before .loop .i + n)) (sym (c .before .before .group-size .ensures)))
+
+-- src/lib.rt:197:1
+returns-3 : tie.Need-returns-3 Inv-loop μ-loop
+returns-3 c = record { within = c .before .loop .inv .0; room = λ h. absurd (omega arith); same = c .before .loop .inv .1; head = λ h. absurd (omega arith) }
+
+pub next-device-spec : {M : Type 1} → statement M
+next-device-spec =
+    tie.close
+    (tie.spec
+    Inv-loop
+    μ-loop
+    loop-holds
+    mul-w
+    shared-slice-read-w
+    group-size-requires
+    sub-if1
+    returns
+    returns-2
+    add-i
+    loop-less
+    loop-again
+    returns-3)
