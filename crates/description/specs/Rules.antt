@@ -76,7 +76,7 @@ checkOf t = cond (ltb maxWords (length t)) (refused 3 (maxWords ∷ [])) (firstB
 unfoldable pub readDescriptions : List ℕ → Outcome (List Description)
 readDescriptions t = bind (checkOf t) (λ ok. value (descriptionsOf t))
 
--- the paper's words for what `check` answers
+-- document 01's number and values for what `check` answers
 unfoldable pub checkedOutcome : Checked → Outcome Unit
 checkedOutcome WellFormed = value tt
 checkedOutcome (Refused p) = refused 3 (p ∷ [])

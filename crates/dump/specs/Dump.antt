@@ -56,7 +56,7 @@ unfoldable pub outputAfter : Outcome ℕ → List ℕ → List ℕ → List ℕ
 outputAfter (refused n vs) s old = old
 outputAfter (value n) s old = dumpWords s ++ drop (wordsNeeded s) old
 
--- the paper's words for what the dump reader answers
+-- document 01's number and values for what the dump reader answers
 unfoldable pub dumpOutcome : Dump → Outcome ℕ
 dumpOutcome (dump.Records n) = value n
 dumpOutcome (dump.NotAscii p) = refused 1 (p ∷ [])

@@ -27,7 +27,7 @@ max32 = 0xffffffff
 unfoldable pub isComment : List ℕ → Bool
 isComment s = eqb (getD s 0 0) 35
 
--- withToken k as a number that the rest goes on with; the first that is none ends the line
+-- token k as a number that the rest goes on with; the first that is none ends the line
 unfoldable pub withToken : ℕ → Number → (ℕ → Met) → Met
 withToken k number.None rest = met.Skipped (Bad k)
 withToken k (number.Value v) rest = rest v
@@ -71,7 +71,7 @@ recordOf (met.Skipped w) = none
 unfoldable pub lineAnswer : List ℕ → Outcome (Option Register)
 lineAnswer s = cond (ltb (placeFrom isHigh s 0) (length s)) (refused 1 (placeFrom isHigh s 0 ∷ [])) (value (recordOf (meaning s)))
 
--- the paper's words for what the line reader answers
+-- document 01's number and values for what the line reader answers
 unfoldable pub lineOutcome : Line → Outcome (Option Register)
 lineOutcome (line.Record r) = value (some r)
 lineOutcome line.None = value none

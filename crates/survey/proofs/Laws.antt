@@ -21,7 +21,7 @@ use Rattle.survey.specs.declared.Step.the-variants.{On, Broken}
 use Rattle.survey.specs.Words.{isLong, sizeOf, group, cut, groupsOf}
 
 -- the first group of a list of words, and those after it
-short-group : (w : ℕ) (s : List ℕ) → isLong w ≡ false → groupsOf (w ∷ s) ≡ group w 0 0 0 ∷ groupsOf s
+pub short-group : (w : ℕ) (s : List ℕ) → isLong w ≡ false → groupsOf (w ∷ s) ≡ group w 0 0 0 ∷ groupsOf s
 unfolding groupsOf
 short-group w [] e = simp e
 short-group w (a ∷ []) e = simp e

@@ -79,7 +79,7 @@ firstBad i u (g ∷ gs) = onStep (stepBy u g) (λ v. firstBad (i + sizeBy g) v g
 unfoldable pub checkOf : List ℕ → Outcome Unit
 checkOf t = cond (ltb maxWords (length t)) (refused 4 (maxWords ∷ [])) (firstBad 0 start (groupsOf t))
 
--- the paper's words for what `check` answers
+-- document 01's number and values for what `check` answers
 unfoldable pub checkedOutcome : Checked → Outcome Unit
 checkedOutcome WellFormed = value tt
 checkedOutcome (Refused p) = refused 4 (p ∷ [])
