@@ -203,7 +203,7 @@ fn next_device(survey: &[u32], from: usize) -> usize
     while i < survey.len() {
         let w = survey[i];
         let size = group_size(w);
-        if survey.len() - i < size {
+        if survey.len() < i + size {
             return survey.len();
         }
         if w / 268435456 % 16 == 3 {

@@ -1,10 +1,11 @@
+use lib.ListN.{getD, length}
+use Rattle.survey.specs.Words.{sizeOf}
 use Prim.Native.Nat.{_≤_, _<_, _-_, _+_}
-use mathlib.Core.Path.{_≡_, _∙_, sym, ap, refl, subst}
+use mathlib.Core.Path.{_≡_, _∙_, sym, ap, refl}
 use native.Mathlib.Omega.{arith}
 use native.Mathlib.Nat.{le-refl}
 use borrow.Author.Needs.{needs}
 use denote.Ref.{now}
-use lib.ListN.{length, getD}
 use Rattle.survey.specs.Work.{headsAt}
 use Rattle.survey.proofs.Laws.{heads-end, heads-cut, heads-device, heads-other, size-pos}
 use Rattle.survey.proofs.next_device.Statement.{statement}
@@ -33,18 +34,19 @@ group-size-requires : tie.Need-group-size-requires Inv-loop μ-loop
 group-size-requires c κs = search needs
 
 -- src/lib.rt:205:12
-sub-if1 : tie.Need-sub-if1 Inv-loop μ-loop
-sub-if1 c = omega arith
+add-if1 : tie.Need-add-if1 Inv-loop μ-loop
+add-if1 c = omega (arith, c .before .before .before .before .before .good, size-pos (getD (now (c .before .before .before .before .before .args .survey)) (c .before .before .before .loop .i) 0), c .group-size .ensures)
 
 -- src/lib.rt:206:13
 returns : tie.Need-returns Inv-loop μ-loop
 returns c = let t = now (c .before .before .before .before .before .before .args .survey) in
-    record { within = le-refl (length t); room = λ h. absurd (omega arith); same = c .before .before .before .before .loop .inv .1 ∙ heads-cut t (c .before .before .before .before .loop .i) (c .before .before .before .loop-test .taken) (subst (λ n. length t - c .before .before .before .before .loop .i < n) (c .before .group-size .ensures) (c .if1 .taken)) ∙ sym (heads-end t (length t) (le-refl (length t))); head = λ h. absurd (omega arith) }
+    let h : length t - c .before .before .before .before .loop .i < sizeOf (getD t (c .before .before .before .before .loop .i) 0) = omega (arith, c .before .group-size .ensures, c .if1 .taken, c .before .before .before .loop-test .taken) in
+    record { within = le-refl (length t); room = λ h. absurd (omega arith); same = c .before .before .before .before .loop .inv .1 ∙ heads-cut t (c .before .before .before .before .loop .i) (c .before .before .before .loop-test .taken) h ∙ sym (heads-end t (length t) (le-refl (length t))); head = λ h. absurd (omega arith) }
 
 -- src/lib.rt:209:13
 returns-2 : tie.Need-returns-2 Inv-loop μ-loop
 returns-2 c = let t = now (c .before .before .before .before .before .before .before .args .survey) in
-    let d = heads-device t (c .before .before .before .before .before .loop .i) (c .before .before .before .before .loop-test .taken) (c .if2 .taken) (subst (λ n. n ≤ length (now (c .before .before .before .before .before .before .before .args .survey)) - c .before .before .before .before .before .loop .i) (c .before .before .group-size .ensures) (c .before .if1 .left)) in
+    let d = heads-device t (c .before .before .before .before .before .loop .i) (c .before .before .before .before .loop-test .taken) (c .if2 .taken) (let h : sizeOf (getD (now (c .before .before .before .before .before .before .before .args .survey)) (c .before .before .before .before .before .loop .i) 0) ≤ length (now (c .before .before .before .before .before .before .before .args .survey)) - c .before .before .before .before .before .loop .i = omega (arith, c .before .before .group-size .ensures, c .before .if1 .left, c .before .before .before .before .loop-test .taken) in h) in
     record { within = c .before .before .before .before .before .loop .inv .0; room = λ h. omega (arith, d .0, c .before .before .group-size .ensures, c .before .if1 .left); same = c .before .before .before .before .before .loop .inv .1; head = λ h. d .1 }
 
 -- src/lib.rt:211:9
@@ -58,7 +60,7 @@ loop-less c = omega (arith, size-pos (getD (now (c .before .before .before .befo
 -- src/lib.rt:202:5
 loop-again : tie.Need-loop-again Inv-loop μ-loop
 loop-again c = let t = now (c .before .before .before .before .before .before .before .args .survey) in
-    (omega (arith, c .before .if1 .left, c .before .before .before .before .loop-test .taken), c .before .before .before .before .before .loop .inv .1 ∙ heads-other t (c .before .before .before .before .before .loop .i) (c .before .before .before .before .loop-test .taken) (c .if2 .left) (subst (λ n. n ≤ length (now (c .before .before .before .before .before .before .before .args .survey)) - c .before .before .before .before .before .loop .i) (c .before .before .group-size .ensures) (c .before .if1 .left)) ∙ ap (λ n. headsAt t (c .before .before .before .before .before .loop .i + n)) (sym (c .before .before .group-size .ensures)))
+    (omega (arith, c .before .if1 .left, c .before .before .before .before .loop-test .taken), c .before .before .before .before .before .loop .inv .1 ∙ heads-other t (c .before .before .before .before .before .loop .i) (c .before .before .before .before .loop-test .taken) (c .if2 .left) (let h : sizeOf (getD (now (c .before .before .before .before .before .before .before .args .survey)) (c .before .before .before .before .before .loop .i) 0) ≤ length (now (c .before .before .before .before .before .before .before .args .survey)) - c .before .before .before .before .before .loop .i = omega (arith, c .before .before .group-size .ensures, c .before .if1 .left, c .before .before .before .before .loop-test .taken) in h) ∙ ap (λ n. headsAt t (c .before .before .before .before .before .loop .i + n)) (sym (c .before .before .group-size .ensures)))
 
 -- src/lib.rt:197:1
 returns-3 : tie.Need-returns-3 Inv-loop μ-loop
@@ -74,7 +76,7 @@ next-device-spec =
     mul-w
     shared-slice-read-w
     group-size-requires
-    sub-if1
+    add-if1
     returns
     returns-2
     add-i
