@@ -60,15 +60,16 @@ module _ (t : List ℕ) (i : ℕ) (h : Checking t i) where
   pub check-end : length t ≤ i → firstBad (goodGroup t) (heads t) ≡ value tt
   check-end l = to _ (rest-end t i (h .0) (h .1) l) ∙ bad-none (goodGroup t)
 
--- why a field needs no more than a place above 0: the first group of a list that is well formed is a register
-good-front : (g : ℕ → Bool) (i : ℕ) (r : List ℕ) → firstBad g (i ∷ r) ≡ value tt → g i ≡ true
+-- where none is bad, the first is good and none of the others is bad
+pub good-front : (g : ℕ → Bool) (i : ℕ) (r : List ℕ) → firstBad g (i ∷ r) ≡ value tt → (g i ≡ true) × (firstBad g r ≡ value tt)
 unfolding firstBad
 good-front g i r e = go (g i) e
   where
-    go : (x : Bool) → cond x (firstBad g r) (refused 3 (i ∷ [])) ≡ value tt → x ≡ true
-    go true h = refl
+    go : (x : Bool) → cond x (firstBad g r) (refused 3 (i ∷ [])) ≡ value tt → (x ≡ true) × (firstBad g r ≡ value tt)
+    go true h = (refl, h)
     go false h = let z : _≡_ {A = ℕ} 0 1 = cc in absurd (omega arith)
 
+-- why a field needs no more than a place above 0: the first group of a list that is well formed is a register
 not-field : (t : List ℕ) → goodGroup t 0 ≡ true → kind (word t 0) ≡ 1
 unfolding goodGroup
 not-field t e = go (eqb (kind (word t 0)) 1) (eqb (kind (word t 0)) 2) refl e
@@ -81,4 +82,4 @@ not-field t e = go (eqb (kind (word t 0)) 1) (eqb (kind (word t 0)) 2) refl e
 pub first-is-register : (t : List ℕ) → firstBad (goodGroup t) (heads t) ≡ value tt → 0 < length t → kind (word t 0) ≡ 1
 first-is-register t a l =
     let n = rest-next t 0 (heads t) (rest-all t) l in
-    not-field t (good-front (goodGroup t) 0 (n .left) (ap (λ (z : List ℕ). firstBad (goodGroup t) z) (sym (n .here)) ∙ a))
+    not-field t (good-front (goodGroup t) 0 (n .left) (ap (λ (z : List ℕ). firstBad (goodGroup t) z) (sym (n .here)) ∙ a) .0)

@@ -17,7 +17,8 @@ use Rattle.description.specs.Rules.{goodRange, goodName, whole, goodField, good
 use Rattle.fields.specs.Names.{fieldIs, findField}
 use Rattle.fields.specs.declared.FieldFound.the-variants.{Bits}
 use Rattle.metadata.specs.Calls.{at}
-use Rattle.metadata.proofs.Places.{among, among-nil, among-other, at-heads, both, good-front, check-good}
+use Rattle.description.proofs.Laws.{good-front}
+use Rattle.metadata.proofs.Places.{among, among-nil, among-other, at-heads, both, check-good}
 use Rattle.metadata.proofs.Named.{From, its-fields}
 
 -- what stands behind a register of well formed words is well formed too

@@ -13,6 +13,7 @@ use Rattle.refusal.specs.Outcome.{refused, value}
 use Rattle.layout.specs.Layout.{word, sizeOf, headsFrom, heads, keep, isRegister, registers}
 use Rattle.layout.specs.Description.{Description, described, descriptionsOf}
 use Rattle.description.specs.Rules.{maxWords, goodName, whole, goodHead, goodRegister, goodGroup, firstBad, checkOf}
+use Rattle.description.proofs.Laws.{good-front}
 use Rattle.layout.proofs.Laws.{Rest, rest-all, rest-next, size-pos}
 use Rattle.metadata.specs.Calls.{at}
 use Rattle.metadata.specs.Work.{standing}
@@ -105,14 +106,6 @@ seek-short t p l = at-heads t p ∙ among-short t p (length t) 0 l ∙ no-standi
 pub both : (x y : Bool) → (x && y) ≡ true → (x ≡ true) × (y ≡ true)
 both true y e = (refl, e)
 both false y e = absurd (false≢true e)
-
-pub good-front : (g : ℕ → Bool) (i : ℕ) (r : List ℕ) → firstBad g (i ∷ r) ≡ value tt → (g i ≡ true) × (firstBad g r ≡ value tt)
-unfolding firstBad
-good-front g i r e = go (g i) e
-  where
-    go : (x : Bool) → cond x (firstBad g r) (refused 3 (i ∷ [])) ≡ value tt → (x ≡ true) × (firstBad g r ≡ value tt)
-    go true h = (refl, h)
-    go false h = let z : _≡_ {A = ℕ} 0 1 = cc in absurd (omega arith)
 
 good-among : (t : List ℕ) (g : ℕ → Bool) (p : ℕ) (d : Description) (r : List ℕ) → firstBad g r ≡ value tt → among t p r ≡ some d → g p ≡ true
 good-among t g p d [] a e = let z : _≡_ {A = ℕ} 0 1 = cc (among-nil t p) in absurd (omega arith)

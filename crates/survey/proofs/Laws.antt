@@ -12,7 +12,7 @@ use borrow.Author.Tests.{eq-eqb, ne-eqb, lt-ltb, le-ltb}
 use Rattle.refusal.specs.Outcome.{refused, value}
 use Rattle.layout.specs.Layout.{bits, low, kind}
 use Rattle.survey.specs.Rules.{maxWords, start, checkOf, goodDevice, goodAdapter, goodRegister, afterDevice, afterAdapter, afterRegister, mayStand, stepOf, stepBy, sizeBy, onStep, firstBad}
-use Rattle.survey.specs.Places.{isDevice, headsFrom, deviceHeads, groupAt}
+use Rattle.survey.specs.Places.{isDevice, deviceHeadsFrom, deviceHeads, groupAt}
 use Rattle.survey.specs.Work.{headsAt, NextHead}
 use Rattle.survey.specs.declared.Placed.the-variants as placed
 use native.Mathlib.Decide.{decLt}
@@ -150,22 +150,22 @@ device-size w k = simp (eq-eqb (kind w) 3 k)
 -- device heads by places
 module _ (t : List ℕ) (i : ℕ) where
   pub heads-end : length t ≤ i → headsAt t i ≡ []
-  unfolding headsFrom groupsOf
-  heads-end h = ap (λ l. headsFrom i (groupsOf l)) (drop-of-length-le t h)
+  unfolding deviceHeadsFrom groupsOf
+  heads-end h = ap (λ l. deviceHeadsFrom i (groupsOf l)) (drop-of-length-le t h)
 
   module _ (here : i < length t) where
     pub heads-cut : length t - i < sizeOf (getD t i 0) → headsAt t i ≡ []
-    unfolding headsFrom isDevice
-    heads-cut h = ap (λ gs. headsFrom i gs) (group-cut t i here h)
+    unfolding deviceHeadsFrom isDevice
+    heads-cut h = ap (λ gs. deviceHeadsFrom i gs) (group-cut t i here h)
 
     -- a whole group: its head word and the groups after it
     whole-heads : sizeOf (getD t i 0) ≤ length t - i → headsAt t i ≡ cond (eqb (kind (getD t i 0)) 3) (i ∷ headsAt t (i + sizeOf (getD t i 0))) (headsAt t (i + sizeOf (getD t i 0)))
-    unfolding headsFrom isDevice sizeBy
+    unfolding deviceHeadsFrom isDevice sizeBy
     whole-heads h = step (isLong (getD t i 0)) refl
       where
         step : (b : Bool) → isLong (getD t i 0) ≡ b → headsAt t i ≡ cond (eqb (kind (getD t i 0)) 3) (i ∷ headsAt t (i + sizeOf (getD t i 0))) (headsAt t (i + sizeOf (getD t i 0)))
-        step true e = ap (λ gs. headsFrom i gs) (long-at t i here e (omega (arith, size-long t i here e)) ∙ ap (λ n. group (getD t i 0) (getD t (i + 1) 0) (getD t (i + 2) 0) (getD t (i + 3) 0) ∷ groupsOf (drop (i + n) t)) (sym (size-long t i here e)))
-        step false e = ap (λ gs. headsFrom i gs) (short-at t i here e ∙ ap (λ n. group (getD t i 0) 0 0 0 ∷ groupsOf (drop (i + n) t)) (sym (size-short t i here e)))
+        step true e = ap (λ gs. deviceHeadsFrom i gs) (long-at t i here e (omega (arith, size-long t i here e)) ∙ ap (λ n. group (getD t i 0) (getD t (i + 1) 0) (getD t (i + 2) 0) (getD t (i + 3) 0) ∷ groupsOf (drop (i + n) t)) (sym (size-long t i here e)))
+        step false e = ap (λ gs. deviceHeadsFrom i gs) (short-at t i here e ∙ ap (λ n. group (getD t i 0) 0 0 0 ∷ groupsOf (drop (i + n) t)) (sym (size-short t i here e)))
 
     pub heads-device : kind (getD t i 0) ≡ 3 → sizeOf (getD t i 0) ≤ length t - i → (sizeOf (getD t i 0) ≡ 4) × (headsAt t i ≡ i ∷ headsAt t (i + 4))
     heads-device k h =

@@ -15,12 +15,12 @@ isDevice (group w a b c) = eqb (kind w) 3
 isDevice cut = false
 
 -- the places of device heads, where the first group here stands at i
-unfoldable pub headsFrom : ℕ → List Group → List ℕ
-headsFrom i [] = []
-headsFrom i (g ∷ gs) = cond (isDevice g) (i ∷ headsFrom (i + sizeBy g) gs) (headsFrom (i + sizeBy g) gs)
+unfoldable pub deviceHeadsFrom : ℕ → List Group → List ℕ
+deviceHeadsFrom i [] = []
+deviceHeadsFrom i (g ∷ gs) = cond (isDevice g) (i ∷ deviceHeadsFrom (i + sizeBy g) gs) (deviceHeadsFrom (i + sizeBy g) gs)
 
 unfoldable pub deviceHeads : List ℕ → List ℕ
-deviceHeads t = headsFrom 0 (groupsOf t)
+deviceHeads t = deviceHeadsFrom 0 (groupsOf t)
 
 -- device p's group: from its head up to the next device's head, or the end
 unfoldable pub groupAt : List ℕ → ℕ → Placed

@@ -4,11 +4,11 @@ use mathlib.Core.Path.{_≡_}
 use mathlib.Core.List.{List, _∷_}
 use lib.ListN.{length, drop}
 use Rattle.survey.specs.Words.{groupsOf}
-use Rattle.survey.specs.Places.{headsFrom}
+use Rattle.survey.specs.Places.{deviceHeadsFrom}
 
 -- the device heads from a group's place on
 abbrev pub headsAt : List ℕ → ℕ → List ℕ
-headsAt t i = headsFrom i (groupsOf (drop i t))
+headsAt t i = deviceHeadsFrom i (groupsOf (drop i t))
 
 -- r is the first device head from i on, or the length
 pub record NextHead (t : List ℕ) (i r : ℕ) : Type 0 where
