@@ -1,4 +1,3 @@
 pub mod Adapter
-pub mod Named
 pub mod Paths
-pub mod State
+pub mod Work

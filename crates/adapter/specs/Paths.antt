@@ -5,12 +5,18 @@ use mathlib.Core.List.{List, [], _∷_}
 use mathlib.Core.Option.{Option, none, some}
 use lib.Dec.{leb, eqb}
 use Rattle.refusal.specs.Outcome.{Outcome, value, bind}
+use Rattle.refusal.specs.Refusal.{refusalOf}
 use Rattle.refusal.specs.declared.Site.{Site}
+use Rattle.refusal.specs.declared.Fault.the-variants.{NoField}
+use Rattle.util.specs.Text.{bytesOf}
+use Rattle.usb4.specs.Numbers.{typeNumber}
 use Rattle.register.specs.declared.Register.{Register}
 use Rattle.layout.specs.Description.{Description}
 use Rattle.survey.specs.Devices.{Adapter}
-use Rattle.adapter.specs.Named.{pathSpace, named, wantedField, wantedFlag}
-use Rattle.adapter.specs.Adapter.{kindOf, kindNumber, minHop}
+use Rattle.named.specs.Named.{pathSpace, named, wantedField, wantedFlag}
+use Rattle.adapter.specs.Adapter.{kindOf, minHop}
+use Rattle.adapter.specs.declared.EntryFound.{EntryFound}
+use Rattle.adapter.specs.declared.EntryFound.the-variants as entry
 
 -- a valid path entry: its HopID, and where it leads
 pub record PathEntry : Type 0 where
@@ -23,13 +29,13 @@ unfoldable pub entryIn : Site → Register → Option Description → Bool → O
 entryIn s r none valid = value none
 entryIn s r (some d) false = value none
 entryIn s r (some d) true =
-    bind (wantedField s (record { register = r; description = d }) "Output HopID")
-    (λ hop. bind (wantedField s (record { register = r; description = d }) "Output Adapter")
+    bind (wantedField s (record { register = r; description = d }) (bytesOf "Output HopID"))
+    (λ hop. bind (wantedField s (record { register = r; description = d }) (bytesOf "Output Adapter"))
     (λ out. value (some (record { inHop = r .offset / 2; outAdapter = out % 256; outHop = hop % 65536 }))))
 
 -- `PathEntry::new`: 6 where Valid cannot be read
 unfoldable pub entryOf : Site → Register → Option Description → Outcome (Option PathEntry)
-entryOf s r d = bind (wantedFlag s r d "Valid") (λ valid. entryIn s r d valid)
+entryOf s r d = bind (wantedFlag s r d (bytesOf "Valid")) (λ valid. entryIn s r d valid)
 
 unfoldable pub withEntry : Option PathEntry → List PathEntry → List PathEntry
 withEntry none es = es
@@ -49,9 +55,10 @@ entriesBy ds s k rs (some least) = entriesFrom ds s k least rs
 
 -- `read_paths` of a path dump that was read; a kind without a least HopID has no entries
 unfoldable pub entriesOf : List Description → Site → Adapter → Outcome (List PathEntry)
-entriesOf ds s a = entriesBy ds s (kindNumber a) (a .entries) (minHop (kindOf a))
+entriesOf ds s a = entriesBy ds s (typeNumber (kindOf a)) (a .entries) (minHop (kindOf a))
 
--- the first entry for a HopID counts
-unfoldable pub entryFor : ℕ → List PathEntry → Option PathEntry
-entryFor h [] = none
-entryFor h (e ∷ es) = cond (eqb (e .inHop) h) (some e) (entryFor h es)
+-- what `entry_of` answers, for a register at an offset
+unfoldable pub entryOutcome : Site → ℕ → EntryFound → Outcome (Option PathEntry)
+entryOutcome s o (entry.Entry out hop) = value (some (record { inHop = o / 2; outAdapter = out; outHop = hop }))
+entryOutcome s o entry.Invalid = value none
+entryOutcome s o entry.NoField = refusalOf (NoField s)

@@ -1,1 +1,8 @@
+pub mod Append
+pub mod Entries
 pub mod Example
+pub mod Fitting
+pub mod Joining
+pub mod One
+pub mod Order
+pub mod Packing

@@ -1,1 +1,3 @@
 pub mod Loading
+pub mod Answers
+pub mod Work

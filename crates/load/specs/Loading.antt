@@ -1,7 +1,7 @@
 -- Document 01, "When it says no": what a survey loads to, device by device, and the first refusal on the way. Assumes nothing.
-use Prim.Native.Nat.{ℕ, suc, _+_, _%_}
+use Prim.Native.Nat.{ℕ, suc, _%_}
 use mathlib.Core.Bool.{Bool, cond, not, _&&_}
-use mathlib.Core.List.{List, [], _∷_}
+use mathlib.Core.List.{List, [], _∷_, map}
 use mathlib.Core.Option.{Option, none, some}
 use lib.Dec.{ltb, eqb}
 use lib.ListN.{length}
@@ -10,31 +10,14 @@ use Rattle.refusal.specs.Refusal.{refusalOf}
 use Rattle.refusal.specs.declared.Site.{Site}
 use Rattle.refusal.specs.declared.Fault.the-variants.{FewRegisters, BadAdapters, NoPathDump}
 use Rattle.util.specs.Text.{bytesOf}
-use Rattle.usb4.specs.declared.AdapterType.{AdapterType}
-use Rattle.usb4.specs.declared.State.{State}
-use Rattle.register.specs.declared.Register.{Register}
+use Rattle.usb4.specs.Codes.{deviceKindOf}
 use Rattle.layout.specs.Description.{Description}
 use Rattle.description.specs.Rules.{readDescriptions}
-use Rattle.naming.specs.Naming.{routerNaming}
 use Rattle.survey.specs.Devices.{Device, Adapter, readSurvey}
-use Rattle.adapter.specs.Named.{Named, orElse, withName, wantedField}
-use Rattle.adapter.specs.Adapter.{kindOf, isLane0, isLane1}
-use Rattle.adapter.specs.State.{parseState}
+use Rattle.named.specs.Named.{Named, routerSpace, byName, wantedField}
+use Rattle.adapter.specs.Adapter.{AdapterRow, adapterSite, decodeOf}
 use Rattle.adapter.specs.Paths.{PathEntry, entriesOf}
-
--- an adapter as it is loaded: what the survey says of it, its kind and state, whether it is lane 0 or lane 1, and its valid path entries
-pub record LoadedAdapter : Type 0 where
-  pub said : Adapter
-  pub kind : AdapterType
-  pub state : State
-  pub lane0 : Bool
-  pub lane1 : Bool
-  pub entries : List PathEntry
-
--- a device as it is loaded; its adapters as loaded take the place of those that the survey says
-pub record LoadedDevice : Type 0 where
-  pub said : Device
-  pub adapters : List LoadedAdapter
+use Rattle.tables.specs.Rows.{EntryRow, DeviceRow, Rows, noRows, joined}
 
 -- the number of a router among device kinds
 abbrev pub router : ℕ
@@ -44,87 +27,83 @@ router = 1
 abbrev pub missing : ℕ
 missing = 2
 
--- the router itself, and one of its adapters
+-- the router itself
 unfoldable pub itself : ℕ → Site
-itself p = record { place = p; adapter = 0 }
+itself p = adapterSite p 0
 
-unfoldable pub adapterAt : ℕ → ℕ → Site
-adapterAt p n = record { place = p; adapter = n }
+-- rows of one part, then those of the next
+unfoldable pub andThen : Outcome Rows → Outcome Rows → Outcome Rows
+andThen a b = bind a (λ x. bind b (λ y. value (joined x y)))
 
--- `register_by_name` of a router
-unfoldable pub routerByName : List Description → List ℕ → List Register → Option Named
-routerByName ds name [] = none
-routerByName ds name (r ∷ rs) = orElse (withName name r (routerNaming (r .«relative_offset») (r .«cap_id») (r .«vs_cap_id») ds)) (routerByName ds name rs)
+-- an entry with its device's place and its adapter's number
+unfoldable pub owned : ℕ → ℕ → PathEntry → EntryRow
+owned p a e = record { device = p; adapter = a; inHop = e .inHop; outAdapter = e .outAdapter; outHop = e .outHop }
+
+unfoldable pub ownRows : ℕ → AdapterRow → List PathEntry → Rows
+ownRows p x es = record { entries = map (owned p (x .number)) es; adapters = x ∷ []; devices = [] }
+
+-- each adapter: 5, state (6 or 8 as met), 9, entries (6)
+unfoldable pub loadAdapter : List Description → ℕ → Bool → Adapter → Outcome Rows
+loadAdapter ds p usb4 a =
+    bind (decodeOf ds p usb4 a)
+    (λ x. cond (eqb (a .paths) missing && not (x .lane1)) (refusalOf (NoPathDump (adapterSite p (a .number))))
+    (bind (entriesOf ds (adapterSite p (a .number)) a) (λ es. value (ownRows p x es))))
+
+unfoldable pub loadAdapters : List Description → ℕ → Bool → List Adapter → Outcome Rows
+loadAdapters ds p usb4 [] = value noRows
+loadAdapters ds p usb4 (a ∷ rest) = andThen (loadAdapter ds p usb4 a) (loadAdapters ds p usb4 rest)
 
 -- ROUTER_CS_1 of a router whose registers were read
 unfoldable pub routerCs1 : List Description → Device → Option Named
-routerCs1 ds d = cond (eqb (d .kind) router && d .read) (routerByName ds (bytesOf "ROUTER_CS_1") (d .registers)) none
+routerCs1 ds d = cond (eqb (d .kind) router && d .read) (byName ds routerSpace 0 (bytesOf "ROUTER_CS_1") (d .registers)) none
 
 -- `upstream_adapter`: none without ROUTER_CS_1, else its field modulo 256, or 6
 unfoldable pub upstreamIn : ℕ → Option Named → Outcome (Option ℕ)
 upstreamIn p none = value none
-upstreamIn p (some n) = bind (wantedField (itself p) n "Upstream Adapter") (λ v. value (some (v % 256)))
+upstreamIn p (some n) = bind (wantedField (itself p) n (bytesOf "Upstream Adapter")) (λ v. value (some (v % 256)))
 
-unfoldable pub upstreamOf : List Description → ℕ → Device → Outcome (Option ℕ)
-upstreamOf ds p d = upstreamIn p (routerCs1 ds d)
+unfoldable pub deviceRow : List Description → ℕ → Device → DeviceRow
+deviceRow ds p d = record { kind = deviceKindOf (d .kind); usb4 = d .usb4; domain = d .domain; route = d .route; upstream = upstreamIn p (routerCs1 ds d) }
 
--- 5: registers read, but fewer than three
-unfoldable pub fewRegisters : Adapter → Bool
-fewRegisters a = a .read && ltb (length (a .registers)) 3
-
--- each adapter: 5, state (6 or 8 as met), 9, entries (6)
-unfoldable pub loadAdapter : List Description → ℕ → Bool → Adapter → Outcome LoadedAdapter
-loadAdapter ds p usb4 a =
-    cond (fewRegisters a) (refusalOf (FewRegisters (adapterAt p (a .number))))
-    (bind (parseState ds (adapterAt p (a .number)) a)
-    (λ st. cond (eqb (a .paths) missing && not (isLane1 usb4 a)) (refusalOf (NoPathDump (adapterAt p (a .number))))
-    (bind (entriesOf ds (adapterAt p (a .number)) a)
-    (λ es. value (record { said = a; kind = kindOf a; state = st; lane0 = isLane0 usb4 a; lane1 = isLane1 usb4 a; entries = es })))))
-
-unfoldable pub loadAdapters : List Description → ℕ → Bool → List Adapter → Outcome (List LoadedAdapter)
-loadAdapters ds p usb4 [] = value []
-loadAdapters ds p usb4 (a ∷ rest) = bind (loadAdapter ds p usb4 a) (λ x. bind (loadAdapters ds p usb4 rest) (λ xs. value (x ∷ xs)))
+unfoldable pub deviceRows : List Description → ℕ → Device → Rows
+deviceRows ds p d = record { entries = []; adapters = []; devices = deviceRow ds p d ∷ [] }
 
 -- exactly n, n + 1, .. up to a most, in order
 unfoldable pub numbered : ℕ → ℕ → List Adapter → Bool
 numbered n most [] = eqb n (suc most)
 numbered n most (a ∷ rest) = eqb (a .number) n && ltb n (suc most) && numbered (suc n) most rest
 
--- a device that has adapters: 7 for kind or name, 6 for Max then Upstream Adapter, 7 for the numbers; then each adapter
-unfoldable pub withAdapters : List Description → ℕ → Device → Option Named → Outcome (List LoadedAdapter)
-withAdapters ds p d none = refusalOf (BadAdapters p)
-withAdapters ds p d (some n) =
-    bind (wantedField (itself p) n "Max Adapter")
-    (λ most. bind (wantedField (itself p) n "Upstream Adapter")
-    (λ up. cond (numbered 1 (most % 256) (d .adapters)) (loadAdapters ds p (d .usb4) (d .adapters)) (refusalOf (BadAdapters p))))
+-- a device that has adapters: 7 for kind or name, 6 for Max then Upstream Adapter, 7 for the numbers
+unfoldable pub fitting : ℕ → List Adapter → Option Named → Outcome Unit
+fitting p adapters none = refusalOf (BadAdapters p)
+fitting p adapters (some n) =
+    bind (wantedField (itself p) n (bytesOf "Max Adapter"))
+    (λ most. bind (wantedField (itself p) n (bytesOf "Upstream Adapter"))
+    (λ up. cond (numbered 1 (most % 256) adapters) (value tt) (refusalOf (BadAdapters p))))
 
-unfoldable pub adaptersOf : List Description → ℕ → Device → List Adapter → Outcome (List LoadedAdapter)
-adaptersOf ds p d [] = value []
-adaptersOf ds p d (a ∷ rest) = withAdapters ds p d (routerCs1 ds d)
+unfoldable pub fits : List Description → ℕ → Device → List Adapter → Outcome Unit
+fits ds p d [] = value tt
+fits ds p d (a ∷ rest) = fitting p (a ∷ rest) (routerCs1 ds d)
 
 -- 5: registers read, but a router has none
 unfoldable pub noRegisters : Device → Bool
 noRegisters d = d .read && eqb (length (d .registers)) 0
 
-unfoldable pub loadDevice : List Description → ℕ → Device → Outcome LoadedDevice
+-- 5; whether its adapters fit; then each adapter
+unfoldable pub loadDevice : List Description → ℕ → Device → Outcome Rows
 loadDevice ds p d =
     cond (noRegisters d) (refusalOf (FewRegisters (itself p)))
-    (bind (adaptersOf ds p d (d .adapters)) (λ xs. value (record { said = d; adapters = xs })))
+    (bind (fits ds p d (d .adapters)) (λ ok. andThen (value (deviceRows ds p d)) (loadAdapters ds p (d .usb4) (d .adapters))))
 
 -- device by device, from a place on
-unfoldable pub loadFrom : List Description → ℕ → List Device → Outcome (List LoadedDevice)
-loadFrom ds p [] = value []
-loadFrom ds p (d ∷ rest) = bind (loadDevice ds p d) (λ x. bind (loadFrom ds (suc p) rest) (λ xs. value (x ∷ xs)))
+unfoldable pub loadFrom : List Description → ℕ → List Device → Outcome Rows
+loadFrom ds p [] = value noRows
+loadFrom ds p (d ∷ rest) = andThen (loadDevice ds p d) (loadFrom ds (suc p) rest)
 
 -- 3, then 4, then loading: a survey that comes to a value is accepted
-unfoldable pub loaded : List ℕ → List ℕ → Outcome (List LoadedDevice)
+unfoldable pub loaded : List ℕ → List ℕ → Outcome Rows
 loaded t s = bind (readDescriptions t) (λ ds. bind (readSurvey s) (λ devices. loadFrom ds 0 devices))
 
 -- N: the valid path entries
-unfoldable pub entriesIn : List LoadedAdapter → ℕ
-entriesIn [] = 0
-entriesIn (a ∷ rest) = length (a .entries) + entriesIn rest
-
-unfoldable pub validEntries : List LoadedDevice → ℕ
-validEntries [] = 0
-validEntries (d ∷ ds) = entriesIn (d .adapters) + validEntries ds
+abbrev pub validEntries : Rows → ℕ
+validEntries x = length (x .entries)

@@ -53,7 +53,7 @@ short-step u w a b e = ap (λ x. cond (eqb (kind w) 3) (cond (goodDevice w) (On 
 
 -- the group at a place of a list
 module _ (t : List ℕ) (i : ℕ) (here : i < length t) where
-  size-long : isLong (getD t i 0) ≡ true → sizeOf (getD t i 0) ≡ 4
+  pub size-long : isLong (getD t i 0) ≡ true → sizeOf (getD t i 0) ≡ 4
   unfolding sizeOf
   size-long e = simp e
 
@@ -61,10 +61,10 @@ module _ (t : List ℕ) (i : ℕ) (here : i < length t) where
   unfolding sizeOf
   size-short e = simp e
 
-  short-at : isLong (getD t i 0) ≡ false → groupsOf (drop i t) ≡ group (getD t i 0) 0 0 0 ∷ groupsOf (drop (i + 1) t)
+  pub short-at : isLong (getD t i 0) ≡ false → groupsOf (drop i t) ≡ group (getD t i 0) 0 0 0 ∷ groupsOf (drop (i + 1) t)
   short-at e = ap (λ l. groupsOf l) (drop-cons t i 0 here) ∙ short-group (getD t i 0) (drop (suc i) t) e ∙ ap (λ n. group (getD t i 0) 0 0 0 ∷ groupsOf (drop n t)) (sym (add-one i))
 
-  long-at : isLong (getD t i 0) ≡ true → 4 ≤ length t - i → groupsOf (drop i t) ≡ group (getD t i 0) (getD t (i + 1) 0) (getD t (i + 2) 0) (getD t (i + 3) 0) ∷ groupsOf (drop (i + 4) t)
+  pub long-at : isLong (getD t i 0) ≡ true → 4 ≤ length t - i → groupsOf (drop i t) ≡ group (getD t i 0) (getD t (i + 1) 0) (getD t (i + 2) 0) (getD t (i + 3) 0) ∷ groupsOf (drop (i + 4) t)
   long-at e h =
       let e1 : i + 1 ≡ suc i = omega arith in
       let e2 : i + 2 ≡ suc (suc i) = omega arith in

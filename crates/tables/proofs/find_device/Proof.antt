@@ -1,0 +1,58 @@
+use native.Mathlib.Omega.{arith}
+use Rattle.tables.proofs.Laws.{device-past-routes, device-past-marks, device-at}
+use Rattle.tables.specs.Found.{deviceFound}
+use mathlib.Core.Option.{some}
+use mathlib.Core.Path.{ap, _∙_}
+use denote.Ref.{now}
+use borrow.Author.Needs.{needs}
+use Rattle.tables.proofs.find_device.Statement.{statement}
+use Rattle.tables.proofs.find_device.Tie as tie
+
+-- src/lib.rt:269:9
+returns : tie.Need-returns
+unfolding deviceFound
+returns c = device-past-routes 0 (now (c .before .before .before .args .routes)) (now (c .before .before .before .args .marks)) (c .before .before .before .args .place) (c .if1 .taken)
+
+-- src/lib.rt:272:9
+returns-2 : tie.Need-returns-2
+unfolding deviceFound
+returns-2 c = device-past-marks 0 (now (c .before .before .before .before .args .routes)) (now (c .before .before .before .before .args .marks)) (c .before .before .before .before .args .place) (c .if2 .taken)
+
+-- src/lib.rt:274:35
+mul-device-of : tie.Need-mul-device-of
+mul-device-of c = search needs
+
+-- src/lib.rt:274:35
+shared-slice-read-device-of : tie.Need-shared-slice-read-device-of
+shared-slice-read-device-of c = search needs
+
+-- src/lib.rt:274:50
+mul-device-of-2 : tie.Need-mul-device-of-2
+mul-device-of-2 c = search needs
+
+-- src/lib.rt:274:50
+shared-slice-read-device-of-2 : tie.Need-shared-slice-read-device-of-2
+shared-slice-read-device-of-2 c = search needs
+
+-- src/lib.rt:274:25
+device-of-requires : tie.Need-device-of-requires
+device-of-requires c κs = search needs
+
+-- src/lib.rt:265:1
+returns-3 : tie.Need-returns-3
+unfolding deviceFound
+returns-3 c = let a = c .before .before .before .before .before .before .before .args in
+    ap some (c .device-of .ensures (a .place)) ∙ device-at 0 (a .place) (now (a .routes)) (now (a .marks)) (a .place) (omega arith) (c .before .before .before .before .if1 .left) (c .before .before .before .if2 .left)
+
+pub find-device-spec : {M : Type 1} → statement M
+find-device-spec =
+    tie.close
+    (tie.spec
+    returns
+    returns-2
+    mul-device-of
+    shared-slice-read-device-of
+    mul-device-of-2
+    shared-slice-read-device-of-2
+    device-of-requires
+    returns-3)
