@@ -10,11 +10,12 @@ use native.Mathlib.Numerals.{add-one}
 use lib.Dec.{ltb, leb, eqb}
 use lib.ListN.{length, List·getD-eq-default}
 use borrow.Author.Tests.{lt-ltb, le-ltb, le-leb, lt-leb, eq-eqb, ne-eqb}
+use Rattle.refusal.proofs.Laws.{fault-bind}
 use Rattle.refusal.specs.Outcome.{Outcome, value, bind}
 use Rattle.refusal.specs.Refusal.{at, refusalOf}
 use Rattle.refusal.specs.declared.Site.{Site}
 use Rattle.refusal.specs.declared.Fault.{Fault}
-use Rattle.refusal.specs.declared.Fault.the-variants.{FewRegisters, NoField, BadAdapters, GenTOffset, NoPathDump, NoOutAdapter, NoParentRoute, NoDownstreamRoute, Endless}
+use Rattle.refusal.specs.declared.Fault.the-variants.{FewRegisters, NoField}
 use Rattle.util.specs.Bits.{bitsOf}
 use Rattle.util.specs.Text.{bytesOf}
 use Rattle.usb4.specs.Codes.{typeOf}
@@ -37,7 +38,7 @@ use Rattle.register.specs.declared.Register.{Register}
 use Rattle.survey.specs.Devices.{Adapter, registerIn}
 use Rattle.listing.specs.After.{after, listed, registerAt, adapterAt, NextRegister}
 use Rattle.listing.proofs.Laws.{after-end, register-end}
-use Rattle.named.specs.Named.{Named, pathSpace, adapterSpace, named, byName, sited, wantedField, wantedFlag, Within, namedAt, fieldRead, flagRead}
+use Rattle.named.specs.Named.{Named, pathSpace, adapterSpace, named, byName, sited, wantedField, wantedFlag, namedAt, fieldRead, flagRead}
 use Rattle.named.specs.declared.NamedFound.{NamedFound}
 use Rattle.named.specs.declared.NamedFound.the-variants as named-found
 use Rattle.named.specs.declared.FieldRead.{FieldRead}
@@ -337,11 +338,6 @@ module _ (usb4 : Bool) (k : AdapterType) (number : ℕ) (rs : List Register) whe
       unfolding capOutcome found
       lane0-cap i j m = sym (lane0-by true true false false e (ap (λ z. z && found (findCap capUsb4 rs)) u ∙ ap found (sym h ∙ ap capOutcome m)) (ne-eqb number 1 n1) (ne-eqb number 3 n3))
 
--- a register that was found has its four words
-pub found-within : (n : ℕ) (f : NamedFound) → Within n f → (i g : ℕ) → f ≡ named-found.At i g → i + 4 ≤ n
-unfolding Within
-found-within n f h i g e = subst (λ z. Within n z) e h
-
 -- the largest HopID
 module _ (s : Site) (t v : List ℕ) (o : Option Named) (f : NamedFound) (e : namedAt t v f ≡ o) where
   pub most-none : f ≡ named-found.Nowhere → maxHopOutcome s most.None ≡ maxHopIn s o
@@ -442,19 +438,6 @@ pub facts-row : (ds : List Description) (p : ℕ) (usb4 : Bool) (n : ℕ) (k : A
 unfolding factsRow rowBy
 facts-row ds p usb4 n k rs st l0 l1 sp h e0 e1 es eh = rw (es, eh, e1, e0) refl
 
--- a fault refuses what comes after it too
-refused-on : (A B : Type 0) (x : Fault) (f : A → Outcome B) → bind (refusalOf {A = A} x) f ≡ refusalOf x
-unfolding bind refusalOf
-refused-on A B (FewRegisters s) f = refl
-refused-on A B (NoField s) f = refl
-refused-on A B (BadAdapters p) f = refl
-refused-on A B (GenTOffset s) f = refl
-refused-on A B (NoPathDump s) f = refl
-refused-on A B (NoOutAdapter s) f = refl
-refused-on A B (NoParentRoute s) f = refl
-refused-on A B (NoDownstreamRoute s) f = refl
-refused-on A B Endless f = refl
-
 -- what decode answers
 module _ (ds : List Description) (p : ℕ) (usb4 : Bool) (a : Adapter) (n : ℕ) (en : n ≡ a .number) (q : KindFound) (eq : KindIs a q) where
   pub decode-few : q ≡ kind-found.Few → decodedOutcome p (decoded.Refused (FewRegisters (record { place = p; adapter = n }))) ≡ decodeOf ds p usb4 a
@@ -483,7 +466,7 @@ module _ (ds : List Description) (p : ℕ) (usb4 : Bool) (a : Adapter) (n : ℕ)
 
     pub decode-refused : (x : Fault) → f ≡ state-found.Refused x → decodedOutcome p (decoded.Refused x) ≡ decodeOf ds p usb4 a
     unfolding decodedOutcome stateOutcome
-    decode-refused x m = sym (decode-by (state-found.Refused x) m ∙ refused-on State AdapterRow x _)
+    decode-refused x m = sym (decode-by (state-found.Refused x) m ∙ fault-bind {A = State} {B = AdapterRow} x _)
 
     pub decode-adapter : (st : State) → f ≡ state-found.State st → (r : Facts) → factsRow p r ≡ rowBy ds p usb4 n k rs st → decodedOutcome p (decoded.Adapter r) ≡ decodeOf ds p usb4 a
     unfolding decodedOutcome stateOutcome bind

@@ -44,7 +44,7 @@ deviceAt t i = record {
   adapters = after t (i + 4) .adapters;
 }
 
--- r is where the first register of the space from i on, before the next head, has its group; the length where there is none
+-- The first register of the space from i on, before the next head, stands at r; the length where there is none. What stands from r on is fixed; where several places read the same, which of them r is, is free.
 pub record NextRegister (t : List ℕ) (path : Bool) (i r : ℕ) : Type 0 where
   pub within : r ≤ length t
   pub room : r < length t → (i ≤ r) × (r + 4 ≤ length t)
@@ -53,7 +53,7 @@ pub record NextRegister (t : List ℕ) (path : Bool) (i r : ℕ) : Type 0 where
   pub adapters : r < length t → after t i .adapters ≡ after t (r + 4) .adapters
   pub devices : r < length t → after t i .devices ≡ after t (r + 4) .devices
 
--- r is where the first adapter or device from i on has its head; the length where there is none
+-- The first adapter or device from i on has its head at r; the length where there is none. Which r is, of several places that read the same, is free.
 pub record NextHead (t : List ℕ) (i r : ℕ) : Type 0 where
   pub within : r ≤ length t
   pub forward : r < length t → i ≤ r

@@ -4,7 +4,7 @@ use native.Mathlib.Omega.{arith}
 use native.Mathlib.Nat.{add-zero, zero-add, add-assoc}
 use mathlib.Core.Path.{_≡_, refl, _∙_, ap, sym, subst}
 use mathlib.Core.Bool.{Bool, true, false, cond, not, _&&_, false≢true}
-use mathlib.Core.List.{List, [], _∷_, _++_, append-assoc}
+use mathlib.Core.List.{List, [], _∷_, _++_}
 use lib.Dec.{eqb}
 use lib.ListN.{length, length-append}
 use borrow.Author.Tests.{le-ltb}
@@ -22,30 +22,10 @@ use Rattle.survey.specs.declared.Step.the-variants.{On, Broken}
 use Rattle.survey.proofs.Append.{uncut, groups-append, extended, Complete, gather-append, sizes, Fresh, fresh-none, fresh-device, check-append, accepted-uncut}
 use Rattle.adapter.specs.Adapter.{adapterSite, decodeOf}
 use Rattle.adapter.specs.Paths.{entriesOf}
-use Rattle.tables.specs.Rows.{Rows, noRows, joined}
+use Rattle.tables.specs.Rows.{Rows, joined}
 use Rattle.load.specs.Loading.{missing, andThen, ownRows, loadAdapter, loadAdapters, deviceRows, fits, noRegisters, loadDevice, loadFrom, loaded, validEntries}
+use Rattle.load.proofs.Joining.{then-assoc, none-then}
 use Rattle.load.proofs.Order.{Holds, holds-value, holds-bind, holds-map, holds-any, holds-fault, holds-cond}
-
--- ---- rows one after another
-
-pub joined-assoc : (x y z : Rows) → joined (joined x y) z ≡ joined x (joined y z)
-unfolding joined
-joined-assoc x y z =
-    ap (λ e. record { entries = e; adapters = (x .adapters ++ y .adapters) ++ z .adapters; devices = (x .devices ++ y .devices) ++ z .devices }) (append-assoc (x .entries) (y .entries) (z .entries))
-    ∙ ap (λ a. record { entries = x .entries ++ (y .entries ++ z .entries); adapters = a; devices = (x .devices ++ y .devices) ++ z .devices }) (append-assoc (x .adapters) (y .adapters) (z .adapters))
-    ∙ ap (λ d. record { entries = x .entries ++ (y .entries ++ z .entries); adapters = x .adapters ++ (y .adapters ++ z .adapters); devices = d }) (append-assoc (x .devices) (y .devices) (z .devices))
-
-pub then-assoc : (a b c : Outcome Rows) → andThen (andThen a b) c ≡ andThen a (andThen b c)
-unfolding andThen bind
-then-assoc (refused n vs) b c = refl
-then-assoc (value x) (refused n vs) c = refl
-then-assoc (value x) (value y) (refused n vs) = refl
-then-assoc (value x) (value y) (value z) = ap value (joined-assoc x y z)
-
-pub none-then : (a : Outcome Rows) → andThen (value noRows) a ≡ a
-unfolding andThen bind joined
-none-then (refused n vs) = refl
-none-then (value x) = refl
 
 -- N adds up, and so do the devices
 pub entries-add : (x y : Rows) → validEntries (joined x y) ≡ validEntries x + validEntries y

@@ -14,8 +14,9 @@ use lib.Seq.{take-suc-set, length-take-le}
 use borrow.Author.Tests.{eq-eqb, ne-eqb}
 use Rattle.refusal.specs.Outcome.{Outcome, refused, value, bind}
 use Rattle.refusal.specs.Refusal.{refusalOf}
+use Rattle.refusal.proofs.Laws.{fault-bind}
 use Rattle.refusal.specs.declared.Fault.{Fault}
-use Rattle.refusal.specs.declared.Fault.the-variants.{FewRegisters, NoField, BadAdapters, GenTOffset, NoPathDump, NoOutAdapter, NoParentRoute, NoDownstreamRoute, Endless}
+use Rattle.refusal.specs.declared.Fault.the-variants.{FewRegisters}
 use Rattle.layout.specs.Layout.{bits, word, kind}
 use Rattle.description.specs.Rules as description
 use Rattle.description.specs.declared.Checked.the-variants as description-checked
@@ -56,26 +57,13 @@ use Rattle.load.proofs.Order.{entries-rise, adapters-rise}
 
 -- ---- rows and outcomes
 
-joined-assoc : (a b c : Rows) → joined (joined a b) c ≡ joined a (joined b c)
+pub joined-assoc : (a b c : Rows) → joined (joined a b) c ≡ joined a (joined b c)
 unfolding joined
 joined-assoc a b c = rw (append-assoc (a .entries) (b .entries) (c .entries), append-assoc (a .adapters) (b .adapters) (c .adapters), append-assoc (a .devices) (b .devices) (c .devices)) refl
 
 joined-none : (a : Rows) → joined a noRows ≡ a
 unfolding joined
 joined-none a = rw (append-nil (a .entries), append-nil (a .adapters), append-nil (a .devices)) refl
-
--- a fault is a refusal, whatever was to come after it
-pub fault-bind : {A B : Type 0} (f : Fault) (g : A → Outcome B) → bind (refusalOf f) g ≡ refusalOf f
-unfolding bind refusalOf
-fault-bind (FewRegisters s) g = refl
-fault-bind (NoField s) g = refl
-fault-bind (BadAdapters p) g = refl
-fault-bind (GenTOffset s) g = refl
-fault-bind (NoPathDump s) g = refl
-fault-bind (NoOutAdapter s) g = refl
-fault-bind (NoParentRoute s) g = refl
-fault-bind (NoDownstreamRoute s) g = refl
-fault-bind Endless g = refl
 
 then-values : (a b : Rows) → andThen (value a) (value b) ≡ value (joined a b)
 unfolding andThen bind

@@ -8,11 +8,12 @@ use mathlib.Core.Option.{Option, none, some}
 use lib.Dec.{leb, eqb}
 use lib.ListN.{take}
 use borrow.Author.Tests.{leb-true, ne-eqb}
+use Rattle.refusal.proofs.Laws.{fault-bind}
 use Rattle.refusal.specs.Outcome.{Outcome, refused, value, bind}
 use Rattle.refusal.specs.Refusal.{at, refusalOf}
 use Rattle.refusal.specs.declared.Site.{Site}
 use Rattle.refusal.specs.declared.Fault.{Fault}
-use Rattle.refusal.specs.declared.Fault.the-variants.{FewRegisters, NoField, BadAdapters, GenTOffset, NoPathDump, NoOutAdapter, NoParentRoute, NoDownstreamRoute, Endless}
+use Rattle.refusal.specs.declared.Fault.the-variants.{FewRegisters, NoField, NoPathDump}
 use Rattle.usb4.specs.Numbers.{typeNumber}
 use Rattle.usb4.specs.declared.State.{State}
 use Rattle.layout.specs.Layout.{word}
@@ -53,16 +54,7 @@ module _ {A : Type 0} where
 
 -- a refusal goes through what comes after
 refused-on : {A B : Type 0} (f : Fault) (k : A → Outcome B) → refusalOf f ≡ bind (refusalOf f) k
-unfolding refusalOf bind
-refused-on (FewRegisters s) k = refl
-refused-on (NoField s) k = refl
-refused-on (BadAdapters p) k = refl
-refused-on (GenTOffset s) k = refl
-refused-on (NoPathDump s) k = refl
-refused-on (NoOutAdapter s) k = refl
-refused-on (NoParentRoute s) k = refl
-refused-on (NoDownstreamRoute s) k = refl
-refused-on Endless k = refl
+refused-on f k = sym (fault-bind f k)
 
 -- a largest HopID that was found has sixteen bits
 some-fits : (v x : ℕ) (b : Bool) → leb x 65535 ≡ b → some v ≡ cond b (some x) none → v ≤ 65535

@@ -24,7 +24,7 @@ refusedBy (refusal.Survey p) = refused 4 (p ∷ [])
 refusedBy (refusal.Fault f) = refusalOf f
 refusedBy refusal.Missing = refused 14 []
 
--- the rows that the tables hold; where loading is refused, what they hold is free
+-- The rows that the tables hold. Free are the words past those that are used, which of several codes for one meaning stands in a word, and, where loading is refused, all of them.
 unfoldable pub rowsBy : Loaded → LoadAnswer → Outcome Rows
 rowsBy l (answer.Tables e a d) = value (record { entries = entriesIn (take e (l .entries)); adapters = adaptersIn (take a (l .adapters)); devices = devicesIn (take d (l .routes)) (take d (l .marks)) })
 rowsBy l (answer.Refused r) = refusedBy r

@@ -71,7 +71,7 @@ wantedField s n name = sited s (valueIn (n .register .value) (findField name (n 
 unfoldable pub wantedFlag : Site → Register → Option Description → List ℕ → Outcome Bool
 wantedFlag s r d name = sited s (flagIn (r .value) name d)
 
--- what `by_name` answers: the register at a place of the survey, and the description at a place of the descriptions
+-- what `by_name` answers: the register at a place of the survey, and the description at a place of the descriptions; which place, of several that read the same, is free
 unfoldable pub namedAt : List ℕ → List ℕ → NamedFound → Option Named
 namedAt t s (found.At i g) = some (record { register = registerAt s i; description = described t g })
 namedAt t s found.Nowhere = none

@@ -1,3 +1,4 @@
+use Rattle.state.proofs.Laws.{found-within}
 use Rattle.adapter.proofs.Laws as laws
 use Rattle.util.specs.Text.{bytesOf}
 use native.Mathlib.Omega.{arith}
@@ -22,7 +23,7 @@ unfolding bytesOf
 returns c = λ s. laws.most-none s _ _ _ _ (c .before .before .by-name .ensures .0) (c .enum-told .given .1)
 
 add-word-at : tie.Need-add-word-at
-add-word-at c = omega (arith, laws.found-within _ _ (c .before .before .before .by-name .ensures .1) _ _ (c .before .register .given .1))
+add-word-at c = omega (arith, found-within _ _ _ _ (c .before .before .before .by-name .ensures .1) (c .before .register .given .1))
 
 word-at-requires : tie.Need-word-at-requires
 word-at-requires c κs = search needs
