@@ -1248,6 +1248,193 @@ fn batch(kind: &str) {
     finish(&out)
 }
 
+// ---- many surveys in one run --------------------------------------------------------------
+//
+// A survey comes as words and is written out as dumps for the Rust to read. make-loads says what
+// questions and answers are.
+
+/// (01) The devices of survey words, which must be well formed, with a dump line for each register.
+fn word_texts(words: &[u32]) -> Option<Vec<DeviceText>> {
+    const KINDS: [Kind; 6] =
+        [Kind::Domain, Kind::Router, Kind::Xdomain, Kind::Retimer, Kind::Service, Kind::Unknown];
+    let mut devices: Vec<DeviceText> = Vec::new();
+    let mut rest = words;
+    while let Some(&w) = rest.first() {
+        let size = if w >> 28 == 4 { 1 } else { 4 };
+        let group = rest.get(..size)?;
+        rest = &rest[size..];
+        match w >> 28 {
+            3 => devices.push(DeviceText {
+                kind: KINDS.get((w >> 24 & 15) as usize)?.clone(),
+                domain: group[1],
+                route: (group[3] as u64) << 32 | group[2] as u64,
+                usb4: w & 1 != 0,
+                regs: (w & 2 != 0).then(Vec::new),
+                adapters: Vec::new(),
+            }),
+            4 => devices.last_mut()?.adapters.push(AdapterText {
+                number: w as u8,
+                regs: (w >> 8 & 1 != 0).then(Vec::new),
+                paths: match w >> 9 & 3 {
+                    0 => Paths::NotRead,
+                    1 => Paths::Read(Vec::new()),
+                    2 => Paths::Missing,
+                    _ => return None,
+                },
+            }),
+            5 => {
+                let (ids, vs, value) = (group[1], group[2], group[3]);
+                let line = format!("{:x} {} {:x} {vs:x} {value:x}\n", w as u16, ids >> 16, ids as u16);
+                let device = devices.last_mut()?;
+                let dump = match (w >> 16 & 1, device.adapters.last_mut()) {
+                    (0, None) => device.regs.as_mut()?,
+                    (0, Some(a)) => a.regs.as_mut()?,
+                    (_, Some(AdapterText { paths: Paths::Read(dump), .. })) => dump,
+                    _ => return None,
+                };
+                dump.extend_from_slice(line.as_bytes());
+            }
+            _ => return None,
+        }
+    }
+    Some(devices)
+}
+
+fn refusal_word(number: u32, place: usize, adapter: u8) -> u32 {
+    15 << 28 | number << 24 | (place as u32) << 8 | adapter as u32
+}
+
+/// An answer: none is 0, a value has bit 28, a panic is the refusal that it stands for.
+fn answer_word(r: Result<Option<u32>, Panic>, place: usize, adapter: u8) -> u32 {
+    match r {
+        Ok(None) => 0,
+        Ok(Some(v)) => 1 << 28 | v,
+        Err(p) => refusal_word(refusal_of(&p), place, adapter),
+    }
+}
+
+fn route_words(r: Result<Option<u64>, Panic>, place: usize, adapter: u8) -> Vec<u32> {
+    match r {
+        Ok(Some(v)) => vec![2 << 28, v as u32, (v >> 32) as u32],
+        other => vec![answer_word(other.map(|_| None), place, adapter)],
+    }
+}
+
+fn device_answers(devices: &[Device], place: usize) -> Vec<u32> {
+    let d = &devices[place];
+    let (kind, usb4) = (d.kind() as u32, d.usb4_version().is_some() as u32);
+    let upstream = run(|| d.upstream_adapter());
+    // (01) In `parent_from`, 11 names a router's upstream adapter, 6 the router itself.
+    let named = match &upstream {
+        Ok(Some(n)) => *n,
+        _ => 0,
+    };
+    let parent = run(|| d.parent_from(devices).map(|p| place_of(devices, p) as u32));
+    vec![
+        3 << 28 | kind << 8 | usb4 << 4 | d.depth(),
+        d.domain_index(),
+        d.route() as u32,
+        (d.route() >> 32) as u32,
+        answer_word(upstream.map(|n| n.map(u32::from)), place, 0),
+        answer_word(parent, place, named),
+    ]
+}
+
+fn cap_word(a: &Adapter, cap: u16) -> u32 {
+    let start = |part: &[Register]| {
+        let all = a.registers().unwrap();
+        all.iter().position(|r| std::ptr::eq(r, &part[0])).unwrap()
+    };
+    let part = run(|| a.find_cap(cap).map(|p| ((start(p) << 12) + start(p) + p.len()) as u32));
+    answer_word(part, 0, 0)
+}
+
+fn adapter_answers(a: &Adapter, place: usize) -> Vec<u32> {
+    let n = a.adapter();
+    let info = a.kind() as u32
+        | (a.state() as u32) << 4
+        | (a.is_lane0() as u32) << 8
+        | (a.is_lane1() as u32) << 9
+        | (a.is_enabled() as u32) << 10;
+    let mut words = vec![
+        answer_word(Ok(Some(info)), place, n),
+        answer_word(Ok(a.min_hop().map(u32::from)), place, n),
+        answer_word(run(|| Some(a.link_speed() as u32)), place, n),
+        answer_word(run(|| a.max_hop().map(u32::from)), place, n),
+        cap_word(a, 1),
+        cap_word(a, 4),
+        cap_word(a, 6),
+    ];
+    words.extend(route_words(run(|| a.upstream_route()), place, n));
+    words.extend(route_words(run(|| a.downstream_route()), place, n));
+    words
+}
+
+fn path_word(a: &Adapter, hop: u16) -> u32 {
+    let entry = a.path(hop);
+    answer_word(Ok(entry.map(|e| (e.out_adapter() as u32) << 16 | e.out_hop() as u32)), 0, 0)
+}
+
+/// The words of all questions and answers about one survey.
+fn load_words(survey: &[u32], questions: &[u32]) -> Option<Vec<u32>> {
+    let loaded = load(&word_texts(survey)?);
+    let mut out = Vec::new();
+    let mut asked = questions.iter().copied();
+    while let Some(q) = asked.next() {
+        out.push(q);
+        let (place, number) = ((q >> 8 & 0xfffff) as usize, q as u8);
+        let devices = match &loaded {
+            Ok(d) => d,
+            Err(f) => {
+                let (place, adapter) = f.place?;
+                out.push(refusal_word(f.number, place, adapter));
+                continue;
+            }
+        };
+        let adapter = devices.get(place).and_then(|d| d.adapter(number));
+        match q >> 28 {
+            0 => {
+                let entries: usize = devices
+                    .iter()
+                    .flat_map(|d| d.adapters().into_iter().flatten())
+                    .map(|a| a.paths().map_or(0, |p| p.len()))
+                    .sum();
+                out.push(1 << 28 | (devices.len() << 14) as u32 | entries as u32);
+            }
+            1 if place < devices.len() => out.extend(device_answers(devices, place)),
+            2 => out.extend(adapter_answers(adapter?, place)),
+            3 => {
+                let hop = asked.next()?;
+                out.extend([hop, path_word(adapter?, hop as u16)]);
+            }
+            4 => {
+                let cap = asked.next()?;
+                out.extend([cap, cap_word(adapter?, cap as u16)]);
+            }
+            _ => return None,
+        }
+    }
+    Some(out)
+}
+
+fn loads() {
+    let mut out = String::new();
+    for (i, l) in lines().iter().enumerate() {
+        let bad = |why: &str| -> ! { driver_error(&format!("survey {}: {why}", i + 1)) };
+        let words: Option<Vec<u32>> =
+            l.split(' ').map(|t| u32::from_str_radix(t, 16).ok()).collect();
+        let Some(words) = words else { bad("no words") };
+        let n = words[0] as usize;
+        if words.len() - 1 < n {
+            bad("too few words");
+        }
+        let Some(words) = load_words(&words[1..=n], &words[n + 1..]) else { bad("no question") };
+        words.iter().for_each(|w| write!(out, " {w:08x}").unwrap());
+        out.push('\n');
+    }
+    finish(&out)
+}
+
 fn main() {
     include_dir::load();
     install_hook();
@@ -1291,6 +1478,7 @@ fn main() {
         ["routes"] => routes(),
         ["parent"] => parent(),
         ["downstream"] => downstream(),
+        ["loads"] => loads(),
         _ => driver_error("unknown mode; see README.md"),
     }
 }

@@ -3,7 +3,8 @@
 // each line of totals says `differ 1` and where.
 mod answer;
 mod case;
-mod named;
+mod loads;
+mod names;
 mod routes;
 mod rule;
 mod surveys;
@@ -12,7 +13,7 @@ ghost use Prim.Native.Nat.{_<_, _≤_};
 ghost use lib.ListN.{length};
 use case::Input;
 use libc::STDOUT_FILENO;
-use named::Step;
+use names::Step;
 
 enum Kind {
     Line,
@@ -22,7 +23,7 @@ enum Kind {
     Rule,
 }
 
-// A file's cases: each by itself, routes, or questions about sets of descriptions.
+// A file's cases: each by itself, routes, or questions about sets of descriptions, or surveys by them.
 enum Cases {
     Each(Kind),
     Routes,
@@ -30,6 +31,7 @@ enum Cases {
     Surveys,
     Groups,
     Named,
+    Loads,
 }
 
 // `first` is the line of the first case that differs, from 1 on; 0 where all agree.
@@ -90,10 +92,11 @@ fn agreeing(kind: Kind, line: &[u8]) -> bool {
     agrees(kind, line, &mut bytes, &mut scratch, &mut output)
 }
 
-// A case about names goes by the set in `words`, of which `held` words are in hand; any other stands by itself.
+// A case about names or a survey goes by the set in `words`, of which `held` words are in hand; any other stands by itself.
 fn take(cases: Cases, line: &[u8], words: &mut [u32], held: usize) -> Step {
     match cases {
-        Cases::Named => named::take_line(line, words, held),
+        Cases::Named => names::take_line(line, words, held),
+        Cases::Loads => loads::load_line(line, words, held),
         Cases::Each(kind) => Step {
             agrees: agreeing(kind, line),
             held: 0,
@@ -138,7 +141,7 @@ fn count_cases(of: Cases, text: &[u8], words: &mut [u32]) -> Totals {
         let end = line_end(text, start);
         let step = take(of, &text[start..end], words, held);
         held = step.held;
-        let agreed = named::one(step.agrees);
+        let agreed = names::one(step.agrees);
         agree += agreed;
         cases += 1;
         first = first_of(first, agreed, cases);
@@ -196,4 +199,7 @@ fn main() {
     replay(b"beneath", Cases::Beneath);
     replay(b"surveys", Cases::Surveys);
     replay(b"groups", Cases::Groups);
+    replay(b"loads", Cases::Loads);
+    replay(b"other-loads", Cases::Loads);
+    replay(b"load-rules", Cases::Loads);
 }

@@ -3,7 +3,7 @@ use crate::case::after;
 use crate::case::ends;
 use crate::case::input_end;
 use crate::case::next;
-use crate::named::number_at;
+use crate::names::number_at;
 use route::AdapterFound;
 use route::RouteFound;
 

@@ -2,13 +2,13 @@
 use crate::case::input_end;
 use crate::case::next;
 use crate::case::word;
-use crate::named::fill;
-use crate::named::number_at;
+use crate::names::fill;
+use crate::names::number_at;
 use survey::Checked;
 use survey::Placed;
 
 // Puts the list into `words` and says how many words it has; more than there are where it doesn't fit.
-fn listed(line: &[u8], at: usize, words: &mut [u32]) -> usize {
+pub fn listed(line: &[u8], at: usize, words: &mut [u32]) -> usize {
     let n = word(line, at) as usize;
     if words.len() < n {
         return n;

@@ -1,0 +1,278 @@
+// The calls on one adapter of a survey. Each loads the survey, and answers from the tables.
+ghost use mathlib.Core.Path.{_≡_};
+ghost use Rattle.survey.specs.Devices.{devicesOf};
+ghost use Rattle.listing.specs.After.{after};
+ghost use Rattle.state.specs.State.{isEnabled};
+ghost use Rattle.adapters.specs.Calls.{numberedIn, saidAdapter, rowAnswer, adapterAnswer, speedAnswer, maxHopAnswer, pathAnswer, capabilityAnswer, adapterOutcome, speedOutcome, maxHopOutcome, capabilityOutcome, pathOutcome};
+ghost use Rattle.adapters.specs.Work.{rowOutcome, headOutcome};
+use adapter::CapFound;
+use adapter::Facts;
+use adapter::HopFound;
+use adapter::MaxHop;
+use load::LoadAnswer;
+use load::Refusal;
+use refusal::Fault;
+use refusal::Site;
+use state::SpeedFound;
+use tables::AdapterFound;
+use tables::EntryAt;
+use usb4::AdapterType;
+use usb4::Speed;
+use usb4::State;
+
+// What is said of an adapter: its kind, state, whether it is lane 0 or lane 1, its least HopID, whether it is enabled.
+pub struct AdapterInfo {
+    pub kind: AdapterType,
+    pub state: State,
+    pub lane0: bool,
+    pub lane1: bool,
+    pub min_hop: HopFound,
+    pub enabled: bool,
+}
+
+pub enum AdapterAnswer {
+    Adapter(AdapterInfo),
+    Refused(Refusal),
+}
+
+pub enum SpeedAnswer {
+    Speed(Speed),
+    Refused(Refusal),
+}
+
+pub enum MaxHopAnswer {
+    Hop(u32),
+    None,
+    Refused(Refusal),
+}
+
+// A part of the adapter's registers, by indices: from start up to end, which is left out.
+pub enum CapAnswer {
+    Part { start: usize, end: usize },
+    None,
+    Refused(Refusal),
+}
+
+// Where the entry leads.
+pub enum PathAnswer {
+    Entry { out_adapter: u8, out_hop: u16 },
+    None,
+    Refused(Refusal),
+}
+
+// The adapter that is asked for, or what refuses it.
+pub enum RowFound {
+    Adapter(Facts),
+    Refused(Refusal),
+}
+
+// The adapter of the device at a place with a number: 3, 4, loading, 14.
+fn find_row(descriptions: &[u32], survey: &[u32], place: usize, number: u8) -> RowFound
+    ensures { λ r. ⌜ rowOutcome place r ≡ rowAnswer (now (descriptions .entry)) (now (survey .entry)) place number ⌝ }
+{
+    let loaded = load::load(descriptions, survey);
+    let answer = loaded.answer;
+    match answer {
+        LoadAnswer::Refused(refusal) => RowFound::Refused(refusal),
+        LoadAnswer::Tables {
+            entries: _,
+            adapters,
+            devices,
+        } => {
+            if devices <= place {
+                return RowFound::Refused(Refusal::Missing);
+            }
+            let table = loaded.adapters;
+            match tables::find_adapter(&table[..adapters], place, number) {
+                AdapterFound::Nowhere => RowFound::Refused(Refusal::Missing),
+                AdapterFound::Adapter(facts) => RowFound::Adapter(facts),
+            }
+        }
+    }
+}
+
+// Whether an adapter of a kind in a state is enabled: a host interface always, another protocol adapter by its state.
+fn is_enabled(kind: AdapterType, state: State) -> bool
+    ensures { λ r. ⌜ r ≡ isEnabled kind state ⌝ }
+{
+    let code = usb4::type_number(kind);
+    if code == 3 {
+        return true;
+    }
+    if code < 3 {
+        return false;
+    }
+    usb4::state_number(state) == 2
+}
+
+// Kind, state, lanes, least HopID, whether it is enabled.
+pub fn adapter(descriptions: &[u32], survey: &[u32], place: usize, number: u8) -> AdapterAnswer
+    ensures { λ r. ⌜ adapterOutcome r ≡ adapterAnswer (now (descriptions .entry)) (now (survey .entry)) place number ⌝ }
+{
+    match find_row(descriptions, survey, place, number) {
+        RowFound::Refused(refusal) => AdapterAnswer::Refused(refusal),
+        RowFound::Adapter(facts) => {
+            let kind = facts.kind;
+            let state = facts.state;
+            AdapterAnswer::Adapter(AdapterInfo {
+                kind,
+                state,
+                lane0: facts.lane0,
+                lane1: facts.lane1,
+                min_hop: adapter::min_hop(kind),
+                enabled: is_enabled(kind, state),
+            })
+        }
+    }
+}
+
+// The link speed, or 6.
+pub fn link_speed(descriptions: &[u32], survey: &[u32], place: usize, number: u8) -> SpeedAnswer
+    ensures { λ r. ⌜ speedOutcome r ≡ speedAnswer (now (descriptions .entry)) (now (survey .entry)) place number ⌝ }
+{
+    match find_row(descriptions, survey, place, number) {
+        RowFound::Refused(refusal) => SpeedAnswer::Refused(refusal),
+        RowFound::Adapter(facts) => {
+            let speed = facts.speed;
+            match speed {
+                SpeedFound::Speed(v) => SpeedAnswer::Speed(v),
+                SpeedFound::NoField => SpeedAnswer::Refused(Refusal::Fault(Fault::NoField(Site {
+                    place,
+                    adapter: facts.number,
+                }))),
+            }
+        }
+    }
+}
+
+// The largest HopID, or 6.
+pub fn max_hop(descriptions: &[u32], survey: &[u32], place: usize, number: u8) -> MaxHopAnswer
+    ensures { λ r. ⌜ maxHopOutcome r ≡ maxHopAnswer (now (descriptions .entry)) (now (survey .entry)) place number ⌝ }
+{
+    match find_row(descriptions, survey, place, number) {
+        RowFound::Refused(refusal) => MaxHopAnswer::Refused(refusal),
+        RowFound::Adapter(facts) => {
+            let hop = facts.max_hop;
+            match hop {
+                MaxHop::Hop(h) => MaxHopAnswer::Hop(h),
+                MaxHop::None => MaxHopAnswer::None,
+                MaxHop::NoField => MaxHopAnswer::Refused(Refusal::Fault(Fault::NoField(Site {
+                    place,
+                    adapter: facts.number,
+                }))),
+            }
+        }
+    }
+}
+
+// The first valid entry for a HopID.
+pub fn path(
+    descriptions: &[u32],
+    survey: &[u32],
+    place: usize,
+    number: u8,
+    in_hop: u16,
+) -> PathAnswer
+    ensures { λ r. ⌜ pathOutcome place number «in_hop» r ≡ pathAnswer (now (descriptions .entry)) (now (survey .entry)) place number «in_hop» ⌝ }
+{
+    let loaded = load::load(descriptions, survey);
+    let answer = loaded.answer;
+    match answer {
+        LoadAnswer::Refused(refusal) => PathAnswer::Refused(refusal),
+        LoadAnswer::Tables {
+            entries,
+            adapters,
+            devices,
+        } => {
+            if devices <= place {
+                return PathAnswer::Refused(Refusal::Missing);
+            }
+            let table = loaded.adapters;
+            let AdapterFound::Adapter(_) = tables::find_adapter(&table[..adapters], place, number)
+            else {
+                return PathAnswer::Refused(Refusal::Missing);
+            };
+            let rows = loaded.entries;
+            let EntryAt::Entry {
+                out_adapter,
+                out_hop,
+            } = tables::find_entry(&rows[..entries], place, number, in_hop)
+            else {
+                return PathAnswer::None;
+            };
+            PathAnswer::Entry {
+                out_adapter,
+                out_hop,
+            }
+        }
+    }
+}
+
+// Where the head of an adapter stands.
+pub enum HeadFound {
+    Head(usize),
+    Nowhere,
+}
+
+// Where the adapter with a number has its head, of those from a place on up to the next device.
+fn head_from(survey: &[u32], from: usize, number: u8) -> HeadFound
+    ensures { λ r. ⌜ headOutcome (now (survey .entry)) r ≡ numberedIn number (after (now (survey .entry)) from .adapters) ⌝ }
+{
+    let mut i = listing::next_head(survey, from);
+    while i < survey.len() {
+        let w = survey[i];
+        if w / 268435456 % 16 != 4 {
+            return HeadFound::Nowhere;
+        }
+        if w % 256 == number as u32 {
+            return HeadFound::Head(i);
+        }
+        i = listing::next_head(survey, i + 1);
+    }
+    HeadFound::Nowhere
+}
+
+// Where an adapter of the device at a place has its head.
+fn find_head(survey: &[u32], place: usize, number: u8) -> HeadFound
+    ensures { λ r. ⌜ headOutcome (now (survey .entry)) r ≡ saidAdapter (devicesOf (now (survey .entry))) place number ⌝ }
+{
+    let mut left = place;
+    let mut i = listing::next_head(survey, 0);
+    while i < survey.len() {
+        if survey[i] / 268435456 % 16 == 4 {
+            i = listing::next_head(survey, i + 1);
+        } else {
+            if left < 1 {
+                return head_from(survey, i + 4, number);
+            }
+            left -= 1;
+            i = listing::next_head(survey, i + 4);
+        }
+    }
+    HeadFound::Nowhere
+}
+
+// The capability part: the registers from the first with the cap id after index 0 up to the last.
+pub fn capability(
+    descriptions: &[u32],
+    survey: &[u32],
+    place: usize,
+    number: u8,
+    cap: u32,
+) -> CapAnswer
+    ensures { λ r. ⌜ capabilityOutcome r ≡ capabilityAnswer (now (descriptions .entry)) (now (survey .entry)) place number cap ⌝ }
+{
+    let loaded = load::load(descriptions, survey);
+    let answer = loaded.answer;
+    if let LoadAnswer::Refused(refusal) = answer {
+        return CapAnswer::Refused(refusal);
+    }
+    let HeadFound::Head(at) = find_head(survey, place, number) else {
+        return CapAnswer::Refused(Refusal::Missing);
+    };
+    let found = adapter::capability(survey, at, cap);
+    match found {
+        CapFound::Part { start, end } => CapAnswer::Part { start, end },
+        CapFound::None => CapAnswer::None,
+    }
+}
