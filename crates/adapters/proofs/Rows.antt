@@ -1,18 +1,14 @@
 -- Laws on what a loaded survey answers of one adapter. Assumes nothing.
 use Prim.Native.Nat.{ℕ, _<_, _≤_}
 use native.Mathlib.Omega.{arith}
-use mathlib.Core.Path.{_≡_, refl, sym, ap, subst, _∙_}
+use mathlib.Core.Path.{_≡_, sym, ap, subst, _∙_}
 use mathlib.Core.Bool.{Bool}
 use mathlib.Core.List.{List, []}
 use mathlib.Core.Option.{Option}
-use lib.ListN.{length, take, length-take, length-map}
+use lib.ListN.{length, take, length-take}
 use lib.Seq.{length-take-le}
-use mir.Val.{Val}
-use denote.Laws.{Is}
-use denote.Struct.Declared as struct
 use Rattle.refusal.specs.Outcome.{Outcome, refused, value, bind}
 use Rattle.refusal.specs.declared.Fault.the-variants as fault
-use Rattle.refusal.proofs.Laws.{fault-bind}
 use Rattle.usb4.specs.declared.Speed.{Speed}
 use Rattle.survey.specs.Devices.{Adapter, devicesOf}
 use Rattle.state.specs.State.{isEnabled, speedOutcome as speedBy}
@@ -31,13 +27,13 @@ use Rattle.tables.specs.declared.AdapterFound.the-variants as adapter
 use Rattle.tables.specs.declared.EntryAt.{EntryAt}
 use Rattle.tables.specs.declared.EntryAt.the-variants as entry
 use Rattle.tables.proofs.Laws.{device-past-routes, device-at}
+use Rattle.load.proofs.Result.{refused-bind, Sizes}
 use Rattle.load.specs.Loading.{loaded}
 use Rattle.load.specs.Answers.{refusedBy, rowsBy, loadedRows, Usable, UsableBy, present, askedDevice, askedAdapter}
 use Rattle.load.specs.declared.Refusal.{Refusal}
 use Rattle.load.specs.declared.Refusal.the-variants as refusal
 use Rattle.load.specs.declared.LoadAnswer.the-variants as answer
 use Rattle.load.specs.declared.Loaded.{Loaded}
-use Rattle.load.proofs.Loaded as loaded-type
 use Rattle.listing.specs.After.{adapterAt}
 use Rattle.adapters.specs.Calls.{infoIn, infoOf, rowAnswer, adapterAnswer, speedAnswer, maxHopAnswer, pathAnswer, saidAdapter, capabilityAnswer, adapterOutcome, speedOutcome, maxHopOutcome, capabilityOutcome, pathOutcome}
 use Rattle.adapters.specs.Work.{rowOutcome, headOutcome}
@@ -51,29 +47,6 @@ use Rattle.adapters.specs.declared.MaxHopAnswer.the-variants as max-hop
 use Rattle.adapters.specs.declared.CapAnswer.the-variants as capability
 use Rattle.adapters.specs.declared.PathAnswer.the-variants as path
 
--- a refusal is the answer of all that comes after it
-refused-stays : {A B : Type 0} (r : Refusal) (g : A → Outcome B) → refusedBy {A = B} r ≡ bind (refusedBy {A = A} r) g
-unfolding refusedBy bind
-refused-stays (refusal.Descriptions p) g = refl
-refused-stays (refusal.Survey p) g = refl
-refused-stays (refusal.Fault f) g = sym (fault-bind f g)
-refused-stays refusal.Missing g = refl
-
--- how long the tables are
-pub record Sizes (l : Loaded) : Type 0 where
-  pub entries : length (l .entries) ≡ 4096
-  pub adapters : length (l .adapters) ≡ 16384
-  pub routes : length (l .routes) ≡ 4096
-  pub marks : length (l .marks) ≡ 4096
-
-pub sizes : (l : Loaded) (vs : List Val) → Is (struct.row loaded-type.the-type) l vs → Sizes l
-sizes l vs o = record {
-  entries = sym (length-map (l .entries) (λ v. v)) ∙ o .1 .1 .1 .0 .1 .0 .1;
-  adapters = sym (length-map (l .adapters) (λ v. v)) ∙ o .1 .1 .1 .1 .0 .1 .0 .1;
-  routes = sym (length-map (l .routes) (λ v. v)) ∙ o .1 .1 .1 .1 .1 .0 .1 .0 .1;
-  marks = sym (length-map (l .marks) (λ v. v)) ∙ o .1 .1 .1 .1 .1 .1 .0 .1 .0 .1;
-}
-
 -- what was loaded, by what loading answered
 module _ (l : Loaded) (t s : List ℕ) (q : loadedRows l ≡ loaded t s) where
   module _ (r : Refusal) (k : l .answer ≡ answer.Refused r) where
@@ -83,15 +56,15 @@ module _ (l : Loaded) (t s : List ℕ) (q : loadedRows l ≡ loaded t s) where
 
     pub row-refused : (p n : ℕ) → rowOutcome p (row.Refused r) ≡ rowAnswer t s p n
     unfolding rowOutcome rowAnswer
-    row-refused p n = refused-stays r _ ∙ ap (λ (o : Outcome Rows). bind o (λ x. askedAdapter x p n)) not-loaded
+    row-refused p n = sym (refused-bind r _) ∙ ap (λ (o : Outcome Rows). bind o (λ x. askedAdapter x p n)) not-loaded
 
     pub path-refused : (p n h : ℕ) → pathOutcome p n h (path.Refused r) ≡ pathAnswer t s p n h
     unfolding pathOutcome pathAnswer
-    path-refused p n h = refused-stays r _ ∙ ap (λ (o : Outcome Rows). bind o (λ x. bind (askedAdapter x p n) (λ y. value (entryIn (x .entries) p n h)))) not-loaded
+    path-refused p n h = sym (refused-bind r _) ∙ ap (λ (o : Outcome Rows). bind o (λ x. bind (askedAdapter x p n) (λ y. value (entryIn (x .entries) p n h)))) not-loaded
 
     pub cap-refused : (p n c : ℕ) → capabilityOutcome (capability.Refused r) ≡ capabilityAnswer t s p n c
     unfolding capabilityOutcome capabilityAnswer
-    cap-refused p n c = refused-stays r _ ∙ ap (λ (o : Outcome Rows). bind o (λ x. bind (present (saidAdapter (devicesOf s) p n)) (λ y. value (findCap c (registersOf y))))) not-loaded
+    cap-refused p n c = sym (refused-bind r _) ∙ ap (λ (o : Outcome Rows). bind o (λ x. bind (present (saidAdapter (devicesOf s) p n)) (λ y. value (findCap c (registersOf y))))) not-loaded
 
   module _ (e a d : ℕ) (k : l .answer ≡ answer.Tables e a d) where
     abbrev held : Rows
@@ -221,15 +194,15 @@ module _ (t s : List ℕ) (p n : ℕ) (r : RowFound) (q : rowOutcome p r ≡ row
 
     pub adapter-refused : adapterOutcome (adapter-answer.Refused z) ≡ adapterAnswer t s p n
     unfolding adapterOutcome adapterAnswer
-    adapter-refused = refused-stays z _ ∙ ap (λ (o : Outcome AdapterRow). bind o (λ x. value (infoOf x))) no-row
+    adapter-refused = sym (refused-bind z _) ∙ ap (λ (o : Outcome AdapterRow). bind o (λ x. value (infoOf x))) no-row
 
     pub speed-refused : speedOutcome (speed-answer.Refused z) ≡ speedAnswer t s p n
     unfolding speedOutcome speedAnswer
-    speed-refused = refused-stays z _ ∙ ap (λ (o : Outcome AdapterRow). bind o (λ x. x .speed)) no-row
+    speed-refused = sym (refused-bind z _) ∙ ap (λ (o : Outcome AdapterRow). bind o (λ x. x .speed)) no-row
 
     pub hop-refused : maxHopOutcome (max-hop.Refused z) ≡ maxHopAnswer t s p n
     unfolding maxHopOutcome maxHopAnswer
-    hop-refused = refused-stays z _ ∙ ap (λ (o : Outcome AdapterRow). bind o (λ x. x .maxHop)) no-row
+    hop-refused = sym (refused-bind z _) ∙ ap (λ (o : Outcome AdapterRow). bind o (λ x. x .maxHop)) no-row
 
   module _ (x : Facts) (k : r ≡ row.Adapter x) where
     its-row : value (factsRow p x) ≡ rowAnswer t s p n

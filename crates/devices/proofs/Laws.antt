@@ -1,18 +1,17 @@
 -- Laws on outcomes, on the device and the adapter that are asked for, and on parents. Assumes nothing.
 use Prim.Native.Nat.{ℕ, _≤_, _<_}
 use mathlib.Core.Bool.{true, false}
-use mathlib.Core.Path.{_≡_, refl, sym, ap, _∙_, subst}
+use mathlib.Core.Path.{_≡_, refl, sym, ap, _∙_}
 use mathlib.Core.List.{List}
 use mathlib.Core.Option.{Option, none, some, Option·none-ne-some}
 use native.Mathlib.Omega.{arith}
 use native.Mathlib.Decide.{decLt}
-use lib.ListN.{length, take, length-take, length-map}
+use lib.ListN.{length, take, length-take}
 use borrow.Author.Tests.{eq-eqb, ne-eqb}
 use mir.Val.{Val}
 use denote.Laws.{Is}
 use denote.Struct.Declared as struct
 use Rattle.refusal.specs.Outcome.{Outcome, refused, value, bind}
-use Rattle.refusal.proofs.Laws.{fault-bind}
 use Rattle.refusal.specs.declared.Fault.the-variants.{NoParentRoute, NoDownstreamRoute}
 use Rattle.usb4.specs.Numbers.{typeNumber, deviceKindNumber}
 use Rattle.usb4.specs.declared.AdapterType.{AdapterType}
@@ -21,17 +20,17 @@ use Rattle.route.specs.declared.RouteFound.{RouteFound}
 use Rattle.adapter.specs.Adapter.{AdapterRow, adapterSite, factsRow, isLane}
 use Rattle.adapter.specs.declared.Facts.{Facts}
 use Rattle.tables.specs.Rows.{Rows, DeviceRow, adapterIn, deviceIn, isRouter}
-use Rattle.tables.specs.Packed.{entriesIn, adaptersIn, devicesIn}
+use Rattle.tables.specs.Packed.{adaptersIn, devicesIn}
 use Rattle.tables.specs.Found.{AdapterSought, adapterFound, upstreamOutcome, deviceRow}
 use Rattle.tables.specs.declared.AdapterFound.{AdapterFound}
 use Rattle.tables.specs.declared.DeviceFacts.{DeviceFacts}
 use Rattle.tables.specs.declared.Upstream.{Upstream}
 use Rattle.tables.specs.declared.Upstream.the-variants as upstream
 use Rattle.tables.proofs.Laws.{device-past-routes}
+use Rattle.load.proofs.Result.{refused-bind, tablesIn, load-tables, usable, sizes}
 use Rattle.load.specs.Loading.{loaded}
-use Rattle.load.specs.Answers.{refusedBy, rowsBy, loadedRows, Usable, UsableBy, present, askedDevice}
+use Rattle.load.specs.Answers.{refusedBy, loadedRows, Usable, UsableBy, present, askedDevice}
 use Rattle.load.specs.declared.Refusal.{Refusal}
-use Rattle.load.specs.declared.Refusal.the-variants as refusal
 use Rattle.load.specs.declared.Loaded.{Loaded}
 use Rattle.load.proofs.Loaded as loaded-type
 use Rattle.load.specs.declared.LoadAnswer.the-variants as answer
@@ -49,32 +48,6 @@ unfolding bind
 bind-bind (refused n vs) f g = refl
 bind-bind (value a) f g = refl
 
--- a refusal stays what it is, whatever would follow
-pub refused-bind : {A B : Type 0} (r : Refusal) (f : A → Outcome B) → refusedBy r ≡ bind (refusedBy r) f
-unfolding bind refusedBy
-refused-bind (refusal.Descriptions p) f = refl
-refused-bind (refusal.Survey p) f = refl
-refused-bind (refusal.Fault e) f = sym (fault-bind e f)
-refused-bind refusal.Missing f = refl
-
--- ---- what loading answers
-
-abbrev pub tablesIn : Loaded → ℕ → ℕ → ℕ → Rows
-tablesIn l e a d = record { entries = entriesIn (take e (l .entries)); adapters = adaptersIn (take a (l .adapters)); devices = devicesIn (take d (l .routes)) (take d (l .marks)) }
-
-module _ {B : Type 0} (l : Loaded) (t s : List ℕ) (same : loadedRows l ≡ loaded t s) (f : Rows → Outcome B) where
-  pub load-refused : (r : Refusal) → l .answer ≡ answer.Refused r → refusedBy r ≡ bind (loaded t s) f
-  unfolding loadedRows rowsBy
-  load-refused r e = refused-bind r f ∙ ap (λ (o : Outcome Rows). bind o f) (sym (ap (rowsBy l) e) ∙ same)
-
-  pub load-tables : (e a d : ℕ) → l .answer ≡ answer.Tables e a d → f (tablesIn l e a d) ≡ bind (loaded t s) f
-  unfolding loadedRows rowsBy bind
-  load-tables e a d g = ap (λ (o : Outcome Rows). bind o f) (sym (ap (rowsBy l) g) ∙ same)
-
-pub usable : (l : Loaded) (e a d : ℕ) → l .answer ≡ answer.Tables e a d → UsableBy l (l .answer) → Usable l e a d
-unfolding UsableBy
-usable l e a d g u = subst (UsableBy l) g u
-
 -- the parts of the tables that are used are there
 pub record Held (l : Loaded) (a d : ℕ) : Type 0 where
   pub routes : d ≤ length (l .routes)
@@ -82,10 +55,10 @@ pub record Held (l : Loaded) (a d : ℕ) : Type 0 where
   pub adapters : a ≤ length (l .adapters)
 
 pub held : (l : Loaded) (vs : List Val) (e a d : ℕ) → Is (struct.row loaded-type.the-type) l vs → l .answer ≡ answer.Tables e a d → UsableBy l (l .answer) → Held l a d
-held l vs e a d o g u = let w = usable l e a d g u in record {
-  routes = omega (arith, w .devices, length-map (l .routes) (λ v. v), o .1 .1 .1 .1 .1 .0 .1 .0 .1);
-  marks = omega (arith, w .devices, length-map (l .marks) (λ v. v), o .1 .1 .1 .1 .1 .1 .0 .1 .0 .1);
-  adapters = omega (arith, w .adapters, length-map (l .adapters) (λ v. v), o .1 .1 .1 .1 .0 .1 .0 .1);
+held l vs e a d o g u = let w = usable l e a d g u in let z = sizes l vs o in record {
+  routes = omega (arith, w .devices, z .routes);
+  marks = omega (arith, w .devices, z .marks);
+  adapters = omega (arith, w .adapters, z .adapters);
 }
 
 -- ---- the device that is asked for
@@ -112,7 +85,7 @@ module _ {B : Type 0} (t s : List ℕ) (p : ℕ) (k : DeviceRow → Outcome B) (
 
   pub read-refused : (r : Refusal) → x ≡ read.Refused r → refusedBy r ≡ bind (loaded t s) (λ w. bind (askedDevice w p) k)
   unfolding readOutcome
-  read-refused r g = refused-bind r k ∙ ap (λ (y : DeviceRead). bind (readOutcome p y) k) (sym g) ∙ read-then
+  read-refused r g = sym (refused-bind r k) ∙ ap (λ (y : DeviceRead). bind (readOutcome p y) k) (sym g) ∙ read-then
 
   pub read-device : (d : DeviceFacts) → x ≡ read.Device d → k (deviceRow p d) ≡ bind (loaded t s) (λ w. bind (askedDevice w p) k)
   unfolding readOutcome bind
@@ -153,7 +126,7 @@ module _ (t s : List ℕ) (p n : ℕ) (f : DeviceRow → AdapterRow → Outcome 
 
   pub pair-refused : (r : Refusal) → x ≡ pair.Refused r → refusedBy r ≡ onAdapter t s p n f
   unfolding pairOutcome
-  pair-refused r g = refused-bind r (λ w. f (w .device) (w .adapter)) ∙ ap (λ (y : PairRead). bind (pairOutcome p y) (λ w. f (w .device) (w .adapter))) (sym g) ∙ pair-then
+  pair-refused r g = sym (refused-bind r (λ w. f (w .device) (w .adapter))) ∙ ap (λ (y : PairRead). bind (pairOutcome p y) (λ w. f (w .device) (w .adapter))) (sym g) ∙ pair-then
 
   pub pair-both : (d : DeviceFacts) (y : Facts) → x ≡ pair.Pair d y → f (deviceRow p d) (factsRow p y) ≡ onAdapter t s p n f
   unfolding pairOutcome bind

@@ -53,6 +53,7 @@ use Rattle.load.specs.declared.Filled.the-variants as filled
 use Rattle.load.specs.declared.LoadAnswer.{LoadAnswer}
 use Rattle.load.specs.declared.LoadAnswer.the-variants as answer
 use Rattle.load.specs.declared.Loaded.{Loaded}
+use Rattle.load.proofs.Result.{refused-bind}
 use Rattle.load.proofs.Order.{entries-rise, adapters-rise}
 
 -- ---- rows and outcomes
@@ -144,13 +145,6 @@ unfolding loadedRows
 usable t s l same within = usable-by t s l (l .answer) same within
 
 -- ---- whether a survey is accepted
-
-refused-bind : {A B : Type 0} (r : Refusal) (g : A → Outcome B) → bind (refusedBy r) g ≡ refusedBy r
-unfolding refusedBy bind
-refused-bind (refusal.Descriptions p) g = refl
-refused-bind (refusal.Survey p) g = refl
-refused-bind (refusal.Fault f) g = fault-bind f g
-refused-bind refusal.Missing g = refl
 
 devices-length : (p : ℕ) (rs ms : List ℕ) → length rs ≡ length ms → length (devicesFrom p rs ms) ≡ length rs
 unfolding devicesFrom

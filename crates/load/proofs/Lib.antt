@@ -6,3 +6,4 @@ pub mod Joining
 pub mod One
 pub mod Order
 pub mod Packing
+pub mod Result

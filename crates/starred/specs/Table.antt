@@ -4,11 +4,16 @@ use Prim.Native.String.{String}
 use mathlib.Core.Path.{_≡_}
 use mathlib.Core.List.{List, [], _∷_}
 use mathlib.Core.Option.{Option, none, some}
-use Rattle.refusal.specs.Outcome.{value}
+use Rattle.refusal.specs.Outcome.{Outcome, refused, value, bind}
 use Rattle.util.specs.Bits.{bitsOf}
 use Rattle.util.specs.Text.{bytesOf}
 use Rattle.route.specs.Route.{depthOf, upstreamRoute}
 use Rattle.route.specs.declared.RouteFound.the-variants.{Route}
+use Rattle.metadata.specs.Ours.{ours}
+use Rattle.survey.specs.Devices.{readSurvey}
+use Rattle.tables.specs.Rows.{EntryRow, Rows}
+use Rattle.load.specs.Loading.{loadFrom}
+use Rattle.walk.specs.Walking.{Comes, walkOn}
 use Rattle.register.specs.Line.{lineAnswer, registerOf}
 use Rattle.register.specs.declared.Register.{Register}
 
@@ -21,6 +26,8 @@ pub data Row : Type 0 where
   depth : ℕ → ℕ → Row
   -- a route, its parent route and the depth of that
   parent : ℕ → ℕ → ℕ → Row
+  -- survey words under our descriptions; the place, adapter and HopID from which a walk starts; what it comes to
+  walk : List ℕ → ℕ → ℕ → ℕ → Outcome (Option (List EntryRow)) → Row
 
 -- what a row says
 unfoldable pub Holds : Row → Type 0
@@ -28,10 +35,48 @@ Holds (line text answer) = lineAnswer (bytesOf text) ≡ value answer
 Holds (field word low high number) = bitsOf word low high ≡ number
 Holds (depth route d) = depthOf route ≡ d
 Holds (parent route up d) = (upstreamRoute route ≡ Route up) × (depthOf up ≡ d)
+Holds (walk words p a h end) =
+    (x : Rows) × (bind (readSurvey words) (λ devices. loadFrom ours 0 devices) ≡ value x) × Comes (walkOn x) (record { place = p; adapter = a; hop = h }) end
 
 unfoldable pub All : List Row → Type 0
 All [] = Unit {0}
 All (r ∷ rs) = Holds r × All rs
+
+-- the worked input with path word 0x80000808 at lane adapter 1 of both routers
+unfoldable pub ring : List ℕ
+ring =
+    822083586 ∷ 0 ∷ 0 ∷ 0 ∷ 1342177281 ∷ 65536 ∷ 0 ∷ 49920
+    ∷ 1073742593 ∷ 1342177280 ∷ 0 ∷ 0 ∷ 0 ∷ 1342177281 ∷ 65536 ∷ 0
+    ∷ 0 ∷ 1342177282 ∷ 131072 ∷ 0 ∷ 1 ∷ 1342242832 ∷ 0 ∷ 0
+    ∷ 2147485704 ∷ 1073742594 ∷ 1342177280 ∷ 0 ∷ 0 ∷ 0 ∷ 1342177281 ∷ 65536
+    ∷ 0 ∷ 0 ∷ 1342177282 ∷ 131072 ∷ 0 ∷ 1048833 ∷ 1342177337 ∷ 4
+    ∷ 0 ∷ 2147483648 ∷ 1342242832 ∷ 0 ∷ 0 ∷ 2147485704 ∷ 1073742083 ∷ 1342177280
+    ∷ 0 ∷ 0 ∷ 0 ∷ 1342177281 ∷ 65536 ∷ 0 ∷ 0 ∷ 1342177282
+    ∷ 131072 ∷ 0 ∷ 2 ∷ 822083586 ∷ 0 ∷ 1 ∷ 0 ∷ 1342177281
+    ∷ 65536 ∷ 0 ∷ 33024 ∷ 1073742593 ∷ 1342177280 ∷ 0 ∷ 0 ∷ 0
+    ∷ 1342177281 ∷ 65536 ∷ 0 ∷ 0 ∷ 1342177282 ∷ 131072 ∷ 0 ∷ 1
+    ∷ 1342242832 ∷ 0 ∷ 0 ∷ 2147485704 ∷ 1073742594 ∷ 1342177280 ∷ 0 ∷ 0
+    ∷ 0 ∷ 1342177281 ∷ 65536 ∷ 0 ∷ 0 ∷ 1342177282 ∷ 131072 ∷ 0
+    ∷ 1048834 ∷ 1342242832 ∷ 0 ∷ 0 ∷ 2147485704
+    ∷ []
+
+-- the worked input with its routers at routes 1 and 0x010001
+unfoldable pub apart : List ℕ
+apart =
+    822083586 ∷ 0 ∷ 1 ∷ 0 ∷ 1342177281 ∷ 65536 ∷ 0 ∷ 49920
+    ∷ 1073742593 ∷ 1342177280 ∷ 0 ∷ 0 ∷ 0 ∷ 1342177281 ∷ 65536 ∷ 0
+    ∷ 0 ∷ 1342177282 ∷ 131072 ∷ 0 ∷ 1 ∷ 1342242832 ∷ 0 ∷ 0
+    ∷ 2147487752 ∷ 1073742594 ∷ 1342177280 ∷ 0 ∷ 0 ∷ 0 ∷ 1342177281 ∷ 65536
+    ∷ 0 ∷ 0 ∷ 1342177282 ∷ 131072 ∷ 0 ∷ 1048833 ∷ 1342177337 ∷ 4
+    ∷ 0 ∷ 2147483648 ∷ 1342242832 ∷ 0 ∷ 0 ∷ 2147485704 ∷ 1073742083 ∷ 1342177280
+    ∷ 0 ∷ 0 ∷ 0 ∷ 1342177281 ∷ 65536 ∷ 0 ∷ 0 ∷ 1342177282
+    ∷ 131072 ∷ 0 ∷ 2 ∷ 822083586 ∷ 0 ∷ 65537 ∷ 0 ∷ 1342177281
+    ∷ 65536 ∷ 0 ∷ 33024 ∷ 1073742593 ∷ 1342177280 ∷ 0 ∷ 0 ∷ 0
+    ∷ 1342177281 ∷ 65536 ∷ 0 ∷ 0 ∷ 1342177282 ∷ 131072 ∷ 0 ∷ 1
+    ∷ 1342242832 ∷ 0 ∷ 0 ∷ 2147487752 ∷ 1073742594 ∷ 1342177280 ∷ 0 ∷ 0
+    ∷ 0 ∷ 1342177281 ∷ 65536 ∷ 0 ∷ 0 ∷ 1342177282 ∷ 131072 ∷ 0
+    ∷ 1048834 ∷ 1342242832 ∷ 0 ∷ 0 ∷ 2147485704
+    ∷ []
 
 unfoldable pub starred : List Row
 starred =
@@ -47,4 +92,6 @@ starred =
     ∷ depth 0x100 2
     ∷ depth (2 ^ 56) 8
     ∷ parent 0x010001 1 1
+    ∷ walk apart 1 2 8 (value none)
+    ∷ walk ring 0 2 8 (refused 13 [])
     ∷ []

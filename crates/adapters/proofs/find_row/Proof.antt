@@ -1,3 +1,4 @@
+use Rattle.load.proofs.Result.{sizes}
 use lib.Seq.{length-take-le}
 use mathlib.Core.Path.{sym}
 use Rattle.adapters.proofs.Rows as laws
@@ -18,10 +19,10 @@ returns : tie.Need-returns
 returns c = laws.row-past _ _ _ (c .before .before .before .before .load .ensures .0) _ _ _ (c .before .before .answer2 .given .1) _ _ (c .if1 .taken)
 
 array-share-prefix-table : tie.Need-array-share-prefix-table
-array-share-prefix-table c = laws.adapters-there _ _ _ (c .before .before .before .before .before .load .ensures .0) _ _ _ (c .before .before .before .answer2 .given .1) (c .before .before .before .before .before .load .ensures .1) (laws.sizes _ _ (c .before .before .before .before .before .load .ok))
+array-share-prefix-table c = laws.adapters-there _ _ _ (c .before .before .before .before .before .load .ensures .0) _ _ _ (c .before .before .before .answer2 .given .1) (c .before .before .before .before .before .load .ensures .1) (sizes _ _ (c .before .before .before .before .before .load .ok))
 
 slice-aggregate-find-adapter : tie.Need-slice-aggregate-find-adapter
-slice-aggregate-find-adapter c = sym (length-take-le _ _ (laws.adapters-there _ _ _ (c .before .before .before .before .before .before .load .ensures .0) _ _ _ (c .before .before .before .before .answer2 .given .1) (c .before .before .before .before .before .before .load .ensures .1) (laws.sizes _ _ (c .before .before .before .before .before .before .load .ok))))
+slice-aggregate-find-adapter c = sym (length-take-le _ _ (laws.adapters-there _ _ _ (c .before .before .before .before .before .before .load .ensures .0) _ _ _ (c .before .before .before .before .answer2 .given .1) (c .before .before .before .before .before .before .load .ensures .1) (sizes _ _ (c .before .before .before .before .before .before .load .ok))))
 
 find-adapter-requires : tie.Need-find-adapter-requires
 find-adapter-requires c κs = search needs
@@ -36,10 +37,10 @@ returns-2 : tie.Need-returns-2
 returns-2 c = laws.row-refused _ _ _ (c .before .before .before .load .ensures .0) _ (c .before .answer .given .1) _ _
 
 returns-3 : tie.Need-returns-3
-returns-3 c = laws.row-nowhere _ _ _ (c .before .before .before .before .before .before .before .before .before .load .ensures .0) _ _ _ (c .before .before .before .before .before .before .before .answer2 .given .1) _ _ (c .before .before .before .before .before .before .before .before .before .load .ensures .1) (laws.sizes _ _ (c .before .before .before .before .before .before .before .before .before .load .ok)) (c .before .before .before .before .before .if1 .left) _ (c .before .before .find-adapter .ensures) (c .enum-told .given .1)
+returns-3 c = laws.row-nowhere _ _ _ (c .before .before .before .before .before .before .before .before .before .load .ensures .0) _ _ _ (c .before .before .before .before .before .before .before .answer2 .given .1) _ _ (c .before .before .before .before .before .before .before .before .before .load .ensures .1) (sizes _ _ (c .before .before .before .before .before .before .before .before .before .load .ok)) (c .before .before .before .before .before .if1 .left) _ (c .before .before .find-adapter .ensures) (c .enum-told .given .1)
 
 returns-4 : tie.Need-returns-4
-returns-4 c = laws.row-found _ _ _ (c .before .before .before .before .before .before .before .before .before .before .load .ensures .0) _ _ _ (c .before .before .before .before .before .before .before .before .answer2 .given .1) _ _ (c .before .before .before .before .before .before .before .before .before .before .load .ensures .1) (laws.sizes _ _ (c .before .before .before .before .before .before .before .before .before .before .load .ok)) (c .before .before .before .before .before .before .if1 .left) _ (c .before .before .before .find-adapter .ensures) _ (c .before .facts .given .1)
+returns-4 c = laws.row-found _ _ _ (c .before .before .before .before .before .before .before .before .before .before .load .ensures .0) _ _ _ (c .before .before .before .before .before .before .before .before .answer2 .given .1) _ _ (c .before .before .before .before .before .before .before .before .before .before .load .ensures .1) (sizes _ _ (c .before .before .before .before .before .before .before .before .before .before .load .ok)) (c .before .before .before .before .before .before .if1 .left) _ (c .before .before .before .find-adapter .ensures) _ (c .before .facts .given .1)
 
 pub find-row-spec : {M : Type 1} → statement M
 find-row-spec =

@@ -6,7 +6,8 @@ use Rattle.refusal.specs.Outcome.{bind}
 use Rattle.load.specs.Answers.{present, refusedBy}
 use Rattle.devices.specs.Work.{rowsIn}
 use Rattle.devices.specs.Calls.{parentOf, parentAnswer, parentOutcome}
-use Rattle.devices.proofs.Laws.{held, usable, load-refused, asked, place-fits, parent-same}
+use Rattle.devices.proofs.Laws.{held, asked, place-fits, parent-same}
+use Rattle.load.proofs.Result.{usable, load-refused}
 use borrow.Author.Needs.{needs}
 use Rattle.devices.proofs.parent_from.Statement.{statement}
 use Rattle.devices.proofs.parent_from.Tie as tie

@@ -2,7 +2,8 @@ use lib.Seq.{length-take-le}
 use Rattle.tables.specs.Found.{deviceFound}
 use Rattle.load.specs.Answers.{askedDevice, present, refusedBy}
 use Rattle.devices.specs.Work.{readDevice, readOutcome}
-use Rattle.devices.proofs.Laws.{held, load-refused, load-tables}
+use Rattle.devices.proofs.Laws.{held}
+use Rattle.load.proofs.Result.{load-refused, load-tables}
 use mathlib.Core.Path.{sym, ap, _∙_}
 use borrow.Author.Needs.{needs}
 use Rattle.devices.proofs.read_device.Statement.{statement}

@@ -8,7 +8,8 @@ use Rattle.adapter.specs.Adapter.{adapterSite}
 use Rattle.load.specs.Answers.{refusedBy}
 use Rattle.devices.specs.Work.{rowsIn}
 use Rattle.devices.specs.Calls.{parentOutcome, routeOutcome, routerAt, parentBy, upstreamIn}
-use Rattle.devices.proofs.Laws.{refused-bind, by-upstream, by-adapter, by-route}
+use Rattle.devices.proofs.Laws.{by-upstream, by-adapter, by-route}
+use Rattle.load.proofs.Result.{refused-bind}
 use borrow.Author.Needs.{needs}
 use Rattle.devices.proofs.router_parent.Statement.{statement}
 use Rattle.devices.proofs.router_parent.Tie as tie
@@ -75,7 +76,7 @@ returns-3 c = by-upstream _ _ _ _ _ _ (c .enum-told2 .given .1)
 -- src/lib.rt:250:1
 returns-4 : tie.Need-returns-4
 unfolding parentOutcome routeOutcome adapterFound
-returns-4 c = refused-bind _ _ ∙ by-route _ _ _ _ _ _ _ _ (c .before .before .before .before .before .before .before .before .before .upstream .given .1) (sym (ap (adapterFound _) (c .before .before .before .before .before .f .given .1)) ∙ c .before .before .before .before .before .before .before .find-adapter .ensures .first (c .before .before .before .before .before .before .before .before .before .before .before .before .before .before .pre .0) (c .before .before .before .before .before .before .before .before .before .before .before .before .before .before .pre .1)) (sym (ap routeOutcome (c .before .refusal .given .1)) ∙ c .before .before .before .upstream-route-of .ensures)
+returns-4 c = sym (refused-bind _ _) ∙ by-route _ _ _ _ _ _ _ _ (c .before .before .before .before .before .before .before .before .before .upstream .given .1) (sym (ap (adapterFound _) (c .before .before .before .before .before .f .given .1)) ∙ c .before .before .before .before .before .before .before .find-adapter .ensures .first (c .before .before .before .before .before .before .before .before .before .before .before .before .before .before .pre .0) (c .before .before .before .before .before .before .before .before .before .before .before .before .before .before .pre .1)) (sym (ap routeOutcome (c .before .refusal .given .1)) ∙ c .before .before .before .upstream-route-of .ensures)
 
 -- src/lib.rt:250:1
 returns-5 : tie.Need-returns-5

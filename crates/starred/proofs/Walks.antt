@@ -1,0 +1,62 @@
+-- The starred rows that walk: what their surveys load to, by computing, and what the walks come to. Assumes nothing.
+use Prim.Native.Nat.{ℕ}
+use native.Mathlib.Omega.{arith}
+use mathlib.Core.Path.{_≡_, refl}
+use mathlib.Core.List.{[], _∷_}
+use mathlib.Core.Option.{none}
+use Rattle.refusal.specs.Outcome.{refused, value, bind}
+use Rattle.refusal.specs.Refusal.{refusalOf, at}
+use Rattle.util.specs.Bits.{bitsOf}
+use Rattle.util.specs.Text.{bytesOf}
+use Rattle.usb4.specs.Codes.{typeOf, laneStateOf, deviceKindOf}
+use Rattle.register.specs.Line.{registerOf}
+use Rattle.layout.specs.Layout.{keep}
+use Rattle.naming.specs.Naming.{is, isNone, kindFits, capFits, vsFits, fits as fitsNaming, only, naming}
+use Rattle.fields.specs.Names.{lower, alike, fieldIs, findField, oneBit, findFlag}
+use Rattle.metadata.specs.Calls.{valueIn, isSet, flagIn}
+use Rattle.metadata.specs.Ours.{bitsNamed, plain, capped, ours}
+use Rattle.survey.specs.Words.{isLong, sizeOf, groupsOf}
+use Rattle.survey.specs.Rules.{goodDevice, goodAdapter, goodRegister, afterDevice, afterAdapter, mayStand, afterRegister, stepOf, stepBy, sizeBy, onStep, firstBad, checkOf}
+use Rattle.survey.specs.Devices.{registerIn, withRegister, withAdapter, withDevice, withGroup, gather, devicesOf, readSurvey}
+use Rattle.named.specs.Named.{named, orElse, havingName, withRegister as havingRegister, byName, sited, wantedField, wantedFlag}
+use Rattle.state.specs.State.{byOffset, bothSet, enabledIf, byFlag, byFlags, laneState, ofKind, stateOf, hasSpeed, speedIn, linkSpeed}
+use Rattle.adapter.specs.Adapter.{AdapterRow, thirdValue, kindOf, registersOf, indicesFrom, lastOf, between, findCap, found, isLane, isLane0, lane0Of, lane1Of, minHop, narrow, maxHopIn, maxHop, parseState, adapterSite, fewRegisters, rowOf, decodeOf}
+use Rattle.adapter.specs.Paths.{entryIn, entryOf, withEntry, entriesFrom, entriesBy, entriesOf}
+use Rattle.load.specs.Loading.{itself, andThen, owned, ownRows, loadAdapter, loadAdapters, routerCs1, upstreamIn, deviceRow, deviceRows, numbered, fitting, fits, noRegisters, loadDevice, loadFrom, loaded, validEntries}
+use Rattle.route.specs.Route.{usedBytes, depthOf, upstreamRoute, downstreamRoute, downstreamAdapter}
+use Rattle.tables.specs.Rows.{EntryRow, Rows, joined, entryIn as entryAt, adapterIn, deviceIn, isRouter, routerFrom}
+use Rattle.load.specs.Answers.{present, askedDevice}
+use Rattle.load.proofs.Example.{entry, plainRow, routerRow, exampleRows}
+use Rattle.devices.specs.Calls.{isUpstream, routeOr, upstreamRouteOf, downstreamRouteOf}
+use Rattle.orbit.specs.Walk.{walkN, onward, made, turned, arrive, found as foundAt, going}
+use Rattle.orbit.proofs.Orbit.{again-never, reach-start, reach-ends}
+use Rattle.walk.specs.Fabric.{standBy, standAt, upBy, arriveUp, downBy, arriveDown, toDevice, toRouter, toRoute, leadsFrom, leadsBy, leads}
+use Rattle.walk.specs.Walking.{Stand, Comes, Comes.drops, Comes.never, turnBy, walkOn}
+use Rattle.starred.specs.Table.{Holds, walk, ring, apart}
+
+unfoldable ringRows : Rows
+ringRows = record { entries = entry 0 1 8 1 8 ∷ entry 0 2 8 1 8 ∷ entry 1 1 8 1 8 ∷ entry 1 2 8 1 8 ∷ []; adapters = exampleRows .adapters; devices = exampleRows .devices }
+
+unfoldable apartRows : Rows
+apartRows = record { entries = exampleRows .entries; adapters = exampleRows .adapters; devices = routerRow 1 3 ∷ routerRow 0x010001 1 ∷ [] }
+
+ring-loads : bind (readSurvey ring) (λ devices. loadFrom ours 0 devices) ≡ value ringRows
+unfolding ring ringRows entry plainRow routerRow exampleRows bind refusalOf at bitsOf bytesOf typeOf laneStateOf deviceKindOf registerOf keep is isNone kindFits capFits vsFits fitsNaming only naming lower alike fieldIs findField oneBit findFlag valueIn isSet flagIn bitsNamed plain capped ours isLong sizeOf groupsOf goodDevice goodAdapter goodRegister afterDevice afterAdapter mayStand afterRegister stepOf stepBy sizeBy onStep firstBad checkOf registerIn withRegister withAdapter withDevice withGroup gather devicesOf readSurvey named orElse havingName havingRegister byName sited wantedField wantedFlag byOffset bothSet enabledIf byFlag byFlags laneState ofKind stateOf hasSpeed speedIn linkSpeed thirdValue kindOf registersOf indicesFrom lastOf between findCap found isLane isLane0 lane0Of lane1Of minHop narrow maxHopIn maxHop parseState adapterSite fewRegisters rowOf decodeOf entryIn entryOf withEntry entriesFrom entriesBy entriesOf joined itself andThen owned ownRows loadAdapter loadAdapters routerCs1 upstreamIn deviceRow deviceRows numbered fitting fits noRegisters loadDevice loadFrom
+ring-loads = refl
+
+apart-loads : bind (readSurvey apart) (λ devices. loadFrom ours 0 devices) ≡ value apartRows
+unfolding apart apartRows entry plainRow routerRow exampleRows bind refusalOf at bitsOf bytesOf typeOf laneStateOf deviceKindOf registerOf keep is isNone kindFits capFits vsFits fitsNaming only naming lower alike fieldIs findField oneBit findFlag valueIn isSet flagIn bitsNamed plain capped ours isLong sizeOf groupsOf goodDevice goodAdapter goodRegister afterDevice afterAdapter mayStand afterRegister stepOf stepBy sizeBy onStep firstBad checkOf registerIn withRegister withAdapter withDevice withGroup gather devicesOf readSurvey named orElse havingName havingRegister byName sited wantedField wantedFlag byOffset bothSet enabledIf byFlag byFlags laneState ofKind stateOf hasSpeed speedIn linkSpeed thirdValue kindOf registersOf indicesFrom lastOf between findCap found isLane isLane0 lane0Of lane1Of minHop narrow maxHopIn maxHop parseState adapterSite fewRegisters rowOf decodeOf entryIn entryOf withEntry entriesFrom entriesBy entriesOf joined itself andThen owned ownRows loadAdapter loadAdapters routerCs1 upstreamIn deviceRow deviceRows numbered fitting fits noRegisters loadDevice loadFrom
+apart-loads = refl
+
+unfoldable stand : ℕ → ℕ → ℕ → Stand
+stand p a h = record { place = p; adapter = a; hop = h }
+
+-- it comes to router 1 by adapter 1 after one hop and after three
+pub ring-row : Holds (walk ring 0 2 8 (refused 13 []))
+unfolding Holds ringRows entry plainRow routerRow exampleRows stand bind present askedDevice entryAt adapterIn deviceIn isRouter routerFrom usedBytes depthOf upstreamRoute downstreamRoute downstreamAdapter isUpstream routeOr upstreamRouteOf downstreamRouteOf isLane adapterSite standBy standAt upBy arriveUp downBy arriveDown toDevice toRouter toRoute leadsFrom leadsBy leads turnBy walkOn walkN onward made turned arrive foundAt going
+ring-row = (ringRows, ring-loads, never (again-never (walkOn ringRows) (stand 0 2 8) (1, 3, stand 1 1 8, omega arith, refl, refl)))
+
+-- the router found above is not right above: no path
+pub apart-row : Holds (walk apart 1 2 8 (value none))
+unfolding Holds apartRows entry plainRow routerRow exampleRows stand bind present askedDevice entryAt adapterIn deviceIn isRouter routerFrom usedBytes depthOf upstreamRoute downstreamRoute downstreamAdapter isUpstream routeOr upstreamRouteOf downstreamRouteOf isLane adapterSite standBy standAt upBy arriveUp downBy arriveDown toDevice toRouter toRoute leadsFrom leadsBy leads turnBy walkOn walkN onward made turned arrive foundAt going
+apart-row = let r = reach-ends (walkOn apartRows) (stand 1 2 8) (reach-start (walkOn apartRows) (stand 1 2 8)) refl refl in (apartRows, apart-loads, drops 1 (r .0) (r .1))

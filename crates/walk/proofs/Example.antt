@@ -1,0 +1,37 @@
+-- Document 01's worked input: both paths of its tunnel, by the definitions. Assumes nothing.
+use Prim.Native.Nat.{ℕ}
+use mathlib.Core.Path.{_≡_, refl}
+use mathlib.Core.List.{List, [], _∷_, _++_, Option·toList}
+use mathlib.Core.Option.{some}
+use Rattle.refusal.specs.Outcome.{value, bind}
+use Rattle.route.specs.Route.{usedBytes, depthOf, upstreamRoute, downstreamRoute, downstreamAdapter}
+use Rattle.adapter.specs.Adapter.{isLane, adapterSite}
+use Rattle.tables.specs.Rows.{entryIn, adapterIn, deviceIn, isRouter, routerFrom}
+use Rattle.load.specs.Answers.{present, askedDevice}
+use Rattle.load.proofs.Example.{entry, plainRow, routerRow, exampleRows}
+use Rattle.devices.specs.Calls.{isUpstream, routeOr, upstreamRouteOf, downstreamRouteOf}
+use Rattle.orbit.specs.Walk.{walkN, hopsN, hopAt, onward, made, turned, arrive, found, going}
+use Rattle.orbit.proofs.Orbit.{reach-start, reach-on, reach-ends}
+use Rattle.walk.specs.Fabric.{standBy, standAt, upBy, arriveUp, downBy, arriveDown, toDevice, toRouter, toRoute, leadsFrom, leadsBy, leads}
+use Rattle.walk.specs.Walking.{Stand, Comes, Comes.ends, turnBy, walkOn}
+
+unfoldable pub stand : ℕ → ℕ → ℕ → Stand
+stand p a h = record { place = p; adapter = a; hop = h }
+
+-- PCIe Down, from 0:2
+pub down : Comes (walkOn exampleRows) (stand 0 2 8) (value (some (entry 0 2 8 1 8 ∷ entry 1 1 8 2 8 ∷ [])))
+unfolding stand entry plainRow routerRow exampleRows bind present askedDevice entryIn adapterIn deviceIn isRouter routerFrom usedBytes depthOf upstreamRoute downstreamRoute downstreamAdapter isUpstream routeOr upstreamRouteOf downstreamRouteOf isLane adapterSite standBy standAt upBy arriveUp downBy arriveDown toDevice toRouter toRoute leadsFrom leadsBy leads turnBy walkOn walkN hopsN hopAt onward made turned arrive found going Option·toList
+down =
+    let W = walkOn exampleRows in
+    let s = stand 0 2 8 in
+    let r = reach-ends W s (reach-on W s (reach-start W s) refl refl) refl refl in
+    ends 2 (r .0) (r .1)
+
+-- PCIe Up, from 1:2
+pub up : Comes (walkOn exampleRows) (stand 1 2 8) (value (some (entry 1 2 8 1 8 ∷ entry 0 1 8 2 8 ∷ [])))
+unfolding stand entry plainRow routerRow exampleRows bind present askedDevice entryIn adapterIn deviceIn isRouter routerFrom usedBytes depthOf upstreamRoute downstreamRoute downstreamAdapter isUpstream routeOr upstreamRouteOf downstreamRouteOf isLane adapterSite standBy standAt upBy arriveUp downBy arriveDown toDevice toRouter toRoute leadsFrom leadsBy leads turnBy walkOn walkN hopsN hopAt onward made turned arrive found going Option·toList
+up =
+    let W = walkOn exampleRows in
+    let s = stand 1 2 8 in
+    let r = reach-ends W s (reach-on W s (reach-start W s) refl refl) refl refl in
+    ends 2 (r .0) (r .1)
