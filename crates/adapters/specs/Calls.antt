@@ -10,7 +10,7 @@ use Rattle.usb4.specs.declared.State.{State}
 use Rattle.usb4.specs.declared.Speed.{Speed}
 use Rattle.survey.specs.Devices.{Device, Adapter, devicesOf}
 use Rattle.state.specs.State.{isEnabled}
-use Rattle.adapter.specs.Adapter.{AdapterRow, Part, registersOf, findCap, minHop, hopOutcome, capOutcome}
+use Rattle.adapter.specs.Adapter.{AdapterRow, Part, registersOf, findCap, minHop, hopOutcome}
 use Rattle.tables.specs.Rows.{EntryRow, entryIn}
 use Rattle.tables.specs.Found.{entryFound}
 use Rattle.tables.specs.declared.EntryAt.the-variants as entry
