@@ -145,7 +145,7 @@ pub fn adapter_type(code: u32) -> AdapterType
     if code == ADP_CS_2_TYPE_USB3_GENT_UP {
         return AdapterType::Usb3GenTUp;
     }
-    AdapterType::Unknown
+    AdapterType::Unknown // any other code
 }
 
 // The state of a lane adapter by its code.
