@@ -4,16 +4,15 @@ use Prim.Native.String.{String}
 use mathlib.Core.Path.{_≡_}
 use mathlib.Core.List.{List, [], _∷_}
 use mathlib.Core.Option.{Option, none, some}
-use Rattle.refusal.specs.Outcome.{Outcome, refused, value, bind}
+use Rattle.refusal.specs.Outcome.{Outcome, refused, value}
 use Rattle.util.specs.Bits.{bitsOf}
 use Rattle.util.specs.Text.{bytesOf}
 use Rattle.route.specs.Route.{depthOf, upstreamRoute}
 use Rattle.route.specs.declared.RouteFound.the-variants.{Route}
+use Rattle.description.specs.Rules.{readDescriptions}
 use Rattle.metadata.specs.Ours.{ours}
-use Rattle.survey.specs.Devices.{readSurvey}
-use Rattle.tables.specs.Rows.{EntryRow, Rows}
-use Rattle.load.specs.Loading.{loadFrom}
-use Rattle.walk.specs.Walking.{Comes, walkOn}
+use Rattle.tables.specs.Rows.{EntryRow}
+use Rattle.walk.specs.Calls.{pathAnswer}
 use Rattle.register.specs.Line.{lineAnswer, registerOf}
 use Rattle.register.specs.declared.Register.{Register}
 
@@ -26,7 +25,7 @@ pub data Row : Type 0 where
   depth : ℕ → ℕ → Row
   -- a route, its parent route and the depth of that
   parent : ℕ → ℕ → ℕ → Row
-  -- survey words under our descriptions; the place, adapter and HopID from which a walk starts; what it comes to
+  -- survey words; the place, adapter and HopID from which a walk starts; what the call for it answers under words that are our descriptions
   walk : List ℕ → ℕ → ℕ → ℕ → Outcome (Option (List EntryRow)) → Row
 
 -- what a row says
@@ -35,8 +34,7 @@ Holds (line text answer) = lineAnswer (bytesOf text) ≡ value answer
 Holds (field word low high number) = bitsOf word low high ≡ number
 Holds (depth route d) = depthOf route ≡ d
 Holds (parent route up d) = (upstreamRoute route ≡ Route up) × (depthOf up ≡ d)
-Holds (walk words p a h end) =
-    (x : Rows) × (bind (readSurvey words) (λ devices. loadFrom ours 0 devices) ≡ value x) × Comes (walkOn x) (record { place = p; adapter = a; hop = h }) end
+Holds (walk words p a h end) = (t : List ℕ) → readDescriptions t ≡ value ours → pathAnswer t words (record { place = p; adapter = a; hopId = h }) ≡ end
 
 unfoldable pub All : List Row → Type 0
 All [] = Unit {0}

@@ -16,7 +16,7 @@ use Rattle.walk.specs.Fabric.{standBy, standAt, upBy, arriveUp, downBy, 
 use Rattle.walk.specs.Walking.{Stand, Comes, Comes.ends, turnBy, walkOn}
 
 unfoldable pub stand : ℕ → ℕ → ℕ → Stand
-stand p a h = record { place = p; adapter = a; hop = h }
+stand p a h = record { place = p; adapter = a; hopId = h }
 
 -- PCIe Down, from 0:2
 pub down : Comes (walkOn exampleRows) (stand 0 2 8) (value (some (entry 0 2 8 1 8 ∷ entry 1 1 8 2 8 ∷ [])))

@@ -4,18 +4,16 @@ use mathlib.Core.Path.{_≡_}
 use mathlib.Core.List.{List, [], _∷_, _++_}
 use mathlib.Core.Option.{Option, none, some}
 use lib.ListN.{length}
-use Rattle.refusal.specs.Outcome.{Outcome, refused, value, bind}
+use Rattle.refusal.specs.Outcome.{Outcome, refused, value}
 use Rattle.tables.specs.Rows.{EntryRow, Rows, entryIn}
-use Rattle.orbit.specs.Walk.{Turn, Turn.on as goes-on, Turn.ends as comes-to, Walk, Spot, Spot.ended, Spot.stopped, walkN, hopsN, EndsAfter, Never}
-use Rattle.load.specs.Loading.{loaded}
-use Rattle.load.specs.Answers.{askedAdapter}
+use Rattle.orbit.specs.Walk.{Turn, Turn.on as goes-on, Turn.ends as comes-to, Walk, Spot.ended, Spot.stopped, walkN, hopsN, EndsAfter, Never}
 use Rattle.walk.specs.Fabric.{Way, Way.on, Way.last, Way.dropped, leads}
 
 -- where a walk stands
 pub record Stand : Type 0 where
   pub place : ℕ
   pub adapter : ℕ
-  pub hop : ℕ
+  pub hopId : ℕ
 
 -- how a hop ends a walk: a path, this hop last; no path at all; or a refusal
 pub data End : Type 0 where
@@ -26,14 +24,14 @@ pub data End : Type 0 where
 -- it stands next at the out HopID
 unfoldable pub turnBy : EntryRow → Outcome Way → Turn Stand End
 turnBy e (refused n vs) = comes-to (fault n vs)
-turnBy e (value (on q a)) = goes-on (record { place = q; adapter = a; hop = e .outHop })
+turnBy e (value (on q a)) = goes-on (record { place = q; adapter = a; hopId = e .outHop })
 turnBy e (value last) = comes-to path
 turnBy e (value dropped) = comes-to noPath
 
 -- a step takes the first valid entry where it stands; that entry, with where it stands, is the hop
 unfoldable pub walkOn : Rows → Walk Stand EntryRow End
 walkOn x = record {
-  hop = λ s. entryIn (x .entries) (s .place) (s .adapter) (s .hop);
+  hop = λ s. entryIn (x .entries) (s .place) (s .adapter) (s .hopId);
   next = λ s e. turnBy e (leads x (s .place) (e .outAdapter));
 }
 
