@@ -56,14 +56,14 @@ pub fn route_agrees(line: &[u8]) -> bool {
     ends(line, after(line, next(line, a), &words))
 }
 
-// The words say a router's route and a device's; then 1 and the adapter between them, or 0 and 0.
+// The words say a router's route and a device's, of one domain; then 1 and the adapter between them, or 0 and 0.
 pub fn beneath_agrees(line: &[u8]) -> bool {
     let at = input_end(line);
     let way = wide_at(line, at);
     let a = next(line, next(line, at));
     let device = wide_at(line, a);
     let b = next(line, next(line, a));
-    match route::downstream_adapter(way, device) {
+    match route::downstream_adapter(0, way, 0, device) {
         AdapterFound::Adapter(n) => ends(line, after(line, b, &[1, n as u32])),
         AdapterFound::None => ends(line, after(line, b, &[0, 0])),
     }

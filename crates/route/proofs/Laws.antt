@@ -8,7 +8,7 @@ use lib.Dec.{eqb}
 use lib.Pow.{pow-add, pow-pos, pow-mono}
 use borrow.Author.Tests.{eq-eqb, ne-eqb, eqb-true}
 use Rattle.util.proofs.Laws.{and-false}
-use Rattle.route.specs.Route.{usedBytes, depthOf, upstreamRoute, downstreamRoute, downstreamAdapter}
+use Rattle.route.specs.Route.{usedBytes, depthOf, upstreamRoute, downstreamRoute, adapterBeneath}
 use Rattle.route.specs.declared.RouteFound.the-variants.{Route, None}
 use Rattle.route.specs.declared.AdapterFound.the-variants as adapter
 use Rattle.route.specs.declared.AdapterFound.the-variants.{Adapter}
@@ -85,19 +85,19 @@ module _ (r d : ℕ) (deep : d ≡ depthOf r) where
     unit-pos = subst (λ n. 0 < n) (sym e) (pow-pos (8 * d))
 
     module _ (device d′ : ℕ) (deep′ : d′ ≡ depthOf device) where
-      here : downstreamAdapter r device ≡ cond (eqb d′ (d + 1) && eqb r (device % u)) (Adapter (device / u % 256)) adapter.None
-      unfolding downstreamAdapter
+      here : adapterBeneath r device ≡ cond (eqb d′ (d + 1) && eqb r (device % u)) (Adapter (device / u % 256)) adapter.None
+      unfolding adapterBeneath
       here = simp (e, deep, deep′)
 
-      pub adapter-route : (r ≡ device % u → ⊥) → downstreamAdapter r device ≡ adapter.None
+      pub adapter-route : (r ≡ device % u → ⊥) → adapterBeneath r device ≡ adapter.None
       adapter-route n = here ∙ simp (ne-eqb r (device % u) n, and-false)
 
-      pub adapter-some : d′ ≡ d + 1 → r ≡ device % u → downstreamAdapter r device ≡ Adapter (device / u % 256)
+      pub adapter-some : d′ ≡ d + 1 → r ≡ device % u → adapterBeneath r device ≡ Adapter (device / u % 256)
       adapter-some f g = here ∙ simp (eq-eqb d′ (d + 1) f, eq-eqb r (device % u) g)
 
-  pub adapter-depth : (device d′ : ℕ) → d′ ≡ depthOf device → (d′ ≡ d + 1 → ⊥) → downstreamAdapter r device ≡ adapter.None
-  unfolding downstreamAdapter
+  pub adapter-depth : (device d′ : ℕ) → d′ ≡ depthOf device → (d′ ≡ d + 1 → ⊥) → adapterBeneath r device ≡ adapter.None
+  unfolding adapterBeneath
   adapter-depth device d′ f n = simp (ne-eqb (depthOf device) (depthOf r + 1) (λ z. n (f ∙ z ∙ ap (λ m. m + 1) (sym deep))))
 
-  pub adapter-deep : (device : ℕ) → 8 ≤ d → downstreamAdapter r device ≡ adapter.None
+  pub adapter-deep : (device : ℕ) → 8 ≤ d → adapterBeneath r device ≡ adapter.None
   adapter-deep device h = adapter-depth device (depthOf device) refl (λ z. omega (arith, depth-le device))

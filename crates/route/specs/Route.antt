@@ -25,8 +25,12 @@ upstreamRoute r = cond (eqb (depthOf r) 0) route.None (route.Route (r % 2 ^ (rou
 unfoldable pub downstreamRoute : ℕ → ℕ → RouteFound
 downstreamRoute r a = cond (eqb (depthOf r) 8) route.None (route.Route (r + a * 2 ^ (routeShift * depthOf r)))
 
--- a device one deeper, whose lower bytes are the route: its last byte is the adapter; that both are of one domain is the caller's to see
-unfoldable pub downstreamAdapter : ℕ → ℕ → AdapterFound
-downstreamAdapter r device =
+-- a device one deeper, whose lower bytes are the route: its last byte is the adapter
+unfoldable pub adapterBeneath : ℕ → ℕ → AdapterFound
+adapterBeneath r device =
     cond (eqb (depthOf device) (depthOf r + 1) && eqb r (device % 2 ^ (routeShift * depthOf r)))
     (adapter.Adapter (device / 2 ^ (routeShift * depthOf r) % 256)) adapter.None
+
+-- `downstream_adapter` of a router of domain m at route r, for a device of domain n: none where the domains differ
+unfoldable pub downstreamAdapter : ℕ → ℕ → ℕ → ℕ → AdapterFound
+downstreamAdapter m r n device = cond (eqb m n) (adapterBeneath r device) adapter.None

@@ -1,6 +1,6 @@
 ghost use mathlib.Core.Path.{_≡_};
 ghost use Prim.Native.Nat.{_*_, _<_, _^_};
-ghost use Rattle.route.specs.Route.{depthOf, upstreamRoute, downstreamRoute, downstreamAdapter};
+ghost use Rattle.route.specs.Route.{depthOf, upstreamRoute, downstreamRoute, adapterBeneath, downstreamAdapter};
 use usb4::ROUTE_SHIFT;
 
 // A route, or none.
@@ -61,9 +61,9 @@ pub fn downstream_route(route: u64, adapter: u8) -> RouteFound
     RouteFound::Route(route + (adapter as u64) * unit(d))
 }
 
-// The adapter of the router at `route` behind which `device` hangs; none where it doesn't hang right below. That both are of one domain is the caller's to see.
-pub fn downstream_adapter(route: u64, device: u64) -> AdapterFound
-    ensures { λ r. ⌜ r ≡ downstreamAdapter route device ⌝ }
+// The adapter of the router at a route behind which a device hangs, by their routes alone.
+fn adapter_beneath(route: u64, device: u64) -> AdapterFound
+    ensures { λ r. ⌜ r ≡ adapterBeneath route device ⌝ }
 {
     let d = depth(route);
     if 7 < d {
@@ -77,4 +77,14 @@ pub fn downstream_adapter(route: u64, device: u64) -> AdapterFound
         return AdapterFound::None;
     }
     AdapterFound::Adapter((device / size % 256) as u8)
+}
+
+// The adapter of a router behind which a device hangs, each given by domain and route; none where it doesn't hang right below, or is of another domain.
+pub fn downstream_adapter(domain: u32, route: u64, device_domain: u32, device: u64) -> AdapterFound
+    ensures { λ r. ⌜ r ≡ downstreamAdapter domain route «device_domain» device ⌝ }
+{
+    if domain != device_domain {
+        return AdapterFound::None;
+    }
+    adapter_beneath(route, device)
 }

@@ -22,7 +22,7 @@ use Rattle.state.specs.State.{byOffset, bothSet, enabledIf, byFlag, byFlags, la
 use Rattle.adapter.specs.Adapter.{AdapterRow, thirdValue, kindOf, registersOf, indicesFrom, lastOf, between, findCap, found, isLane, isLane0, lane0Of, lane1Of, minHop, narrow, maxHopIn, maxHop, parseState, adapterSite, fewRegisters, rowOf, decodeOf}
 use Rattle.adapter.specs.Paths.{entryIn, entryOf, withEntry, entriesFrom, entriesBy, entriesOf}
 use Rattle.load.specs.Loading.{itself, andThen, owned, ownRows, loadAdapter, loadAdapters, routerCs1, upstreamIn, deviceRow, deviceRows, numbered, fitting, fits, noRegisters, loadDevice, loadFrom, loaded}
-use Rattle.route.specs.Route.{usedBytes, depthOf, upstreamRoute, downstreamRoute, downstreamAdapter}
+use Rattle.route.specs.Route.{usedBytes, depthOf, upstreamRoute, downstreamRoute, adapterBeneath, downstreamAdapter}
 use Rattle.tables.specs.Rows.{EntryRow, Rows, joined, entryIn as entryAt, adapterIn, deviceIn, isRouter, routerFrom}
 use Rattle.load.specs.Answers.{present, askedDevice, askedAdapter}
 use Rattle.load.proofs.Example.{entry, plainRow, routerRow, exampleRows}
@@ -53,12 +53,12 @@ answerOn p a h x = bind (askedAdapter x p a) (λ y. walkFrom x (record { place =
 
 -- round and round between the two routers
 ring-walks : answerOn 0 2 8 ringRows ≡ refused 13 []
-unfolding ringRows apartRows entry plainRow routerRow exampleRows bind present askedDevice askedAdapter entryAt adapterIn deviceIn isRouter routerFrom usedBytes depthOf upstreamRoute downstreamRoute downstreamAdapter isUpstream routeOr upstreamRouteOf downstreamRouteOf isLane adapterSite standBy standAt upBy arriveUp downBy arriveDown toDevice toRouter toRoute leadsFrom leadsBy leads turnBy walkOn walkN hopsN hopAt onward made turned arrive foundAt settled walkFrom Option·toList
+unfolding ringRows apartRows entry plainRow routerRow exampleRows bind present askedDevice askedAdapter entryAt adapterIn deviceIn isRouter routerFrom usedBytes depthOf upstreamRoute downstreamRoute adapterBeneath downstreamAdapter isUpstream routeOr upstreamRouteOf downstreamRouteOf isLane adapterSite standBy standAt upBy arriveUp downBy arriveDown toDevice toRouter toRoute leadsFrom leadsBy leads turnBy walkOn walkN hopsN hopAt onward made turned arrive foundAt settled walkFrom Option·toList
 ring-walks = refl
 
 -- the router found above is not right above: no path
 apart-walks : answerOn 1 2 8 apartRows ≡ value none
-unfolding ringRows apartRows entry plainRow routerRow exampleRows bind present askedDevice askedAdapter entryAt adapterIn deviceIn isRouter routerFrom usedBytes depthOf upstreamRoute downstreamRoute downstreamAdapter isUpstream routeOr upstreamRouteOf downstreamRouteOf isLane adapterSite standBy standAt upBy arriveUp downBy arriveDown toDevice toRouter toRoute leadsFrom leadsBy leads turnBy walkOn walkN hopsN hopAt onward made turned arrive foundAt settled walkFrom Option·toList
+unfolding ringRows apartRows entry plainRow routerRow exampleRows bind present askedDevice askedAdapter entryAt adapterIn deviceIn isRouter routerFrom usedBytes depthOf upstreamRoute downstreamRoute adapterBeneath downstreamAdapter isUpstream routeOr upstreamRouteOf downstreamRouteOf isLane adapterSite standBy standAt upBy arriveUp downBy arriveDown toDevice toRouter toRoute leadsFrom leadsBy leads turnBy walkOn walkN hopsN hopAt onward made turned arrive foundAt settled walkFrom Option·toList
 apart-walks = refl
 
 module _ (words : List ℕ) (x : Rows) (p a h : ℕ) (loads : bind (readSurvey words) (λ devices. loadFrom ours 0 devices) ≡ value x) where

@@ -27,13 +27,13 @@ standBy q n (some y) = on q n
 unfoldable pub standAt : Rows → ℕ → ℕ → Way
 standAt x q n = standBy q n (adapterIn (x .adapters) q n)
 
--- up: `downstream_adapter`, the adapter of the router above, e, behind which d hangs; both are of one domain, since e was found in d's
+-- up: `downstream_adapter`, the adapter of the router above, e, behind which d hangs
 unfoldable pub upBy : Rows → ℕ → AdapterFound → Way
 upBy x q found.None = dropped
 upBy x q (found.Adapter n) = standAt x q n
 
 unfoldable pub arriveUp : Rows → DeviceRow → ℕ → DeviceRow → Outcome Way
-arriveUp x d q e = value (upBy x q (downstreamAdapter (e .route) (d .route)))
+arriveUp x d q e = value (upBy x q (downstreamAdapter (e .domain) (e .route) (d .domain) (d .route)))
 
 -- down: the upstream adapter of the router below, or 6
 unfoldable pub downBy : Rows → ℕ → Option ℕ → Way
