@@ -1,4 +1,4 @@
-//! Times loading: the proved `load::accepted` on survey words, and the Rust on the same devices as dumps.
+//! Times loading: the proved `acceptance::accepted` on survey words, and the Rust on the same devices as dumps.
 //! bench/run builds this as a second program of the oracle's crate. ../README.md says what the columns are.
 
 use std::fmt::Write as _;

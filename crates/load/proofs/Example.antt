@@ -4,7 +4,6 @@ use mathlib.Core.Path.{_≡_, refl, _∙_, ap}
 use mathlib.Core.Bool.{Bool, true, false}
 use mathlib.Core.List.{List, [], _∷_}
 use mathlib.Core.Option.{none, some}
-use lib.ListN.{length}
 use Rattle.refusal.specs.Outcome.{value, bind}
 use Rattle.refusal.specs.Refusal.{refusalOf, at}
 use Rattle.util.specs.Bits.{bitsOf}
@@ -31,8 +30,7 @@ use Rattle.state.specs.State.{byOffset, bothSet, enabledIf, byFlag, byFlags, la
 use Rattle.adapter.specs.Adapter.{AdapterRow, thirdValue, kindOf, registersOf, indicesFrom, lastOf, between, findCap, found, isLane, isLane0, lane0Of, lane1Of, minHop, narrow, maxHopIn, maxHop, parseState, adapterSite, fewRegisters, rowOf, decodeOf}
 use Rattle.adapter.specs.Paths.{entryIn, entryOf, withEntry, entriesFrom, entriesBy, entriesOf}
 use Rattle.tables.specs.Rows.{EntryRow, DeviceRow, Rows, joined}
-use Rattle.load.specs.Loading.{itself, andThen, owned, ownRows, loadAdapter, loadAdapters, routerCs1, upstreamIn, deviceRow, deviceRows, numbered, fitting, fits, noRegisters, loadDevice, loadFrom, loaded, validEntries}
-use Rattle.load.specs.Answers.{acceptedAnswer}
+use Rattle.load.specs.Loading.{itself, andThen, owned, ownRows, loadAdapter, loadAdapters, routerCs1, upstreamIn, deviceRow, deviceRows, numbered, fitting, fits, noRegisters, loadDevice, loadFrom, loaded}
 
 -- the worked input as words
 unfoldable pub example : List ℕ
@@ -84,7 +82,3 @@ read-and-load = refl
 pub loads : (t : List ℕ) → readDescriptions t ≡ value ours → loaded t example ≡ value exampleRows
 unfolding loaded bind
 loads t e = ap (λ o. bind o (λ ds. bind (readSurvey example) (λ devices. loadFrom ds 0 devices))) e ∙ read-and-load
-
-pub counts : (t : List ℕ) → readDescriptions t ≡ value ours → acceptedAnswer t example ≡ value (record { devices = 2; entries = 4 })
-unfolding acceptedAnswer bind exampleRows
-counts t e = ap (λ o. bind o (λ x. value (record { devices = length (x .devices); entries = validEntries x }))) (loads t e)

@@ -9,7 +9,7 @@ use mathlib.Core.Bool.{Bool, true, false, cond, _&&_, true≢false}
 use mathlib.Core.List.{List, [], _∷_, _++_, map, map-append, append-assoc, append-nil}
 use mathlib.Core.Option.{Option}
 use lib.Dec.{eqb}
-use lib.ListN.{length, take, set, length-map}
+use lib.ListN.{length, take, set}
 use lib.Seq.{take-suc-set, length-take-le}
 use borrow.Author.Tests.{eq-eqb, ne-eqb}
 use Rattle.refusal.specs.Outcome.{Outcome, refused, value, bind}
@@ -36,10 +36,9 @@ use Rattle.tables.specs.declared.Upstream.{Upstream}
 use Rattle.tables.specs.Packed.{entryWord, adapterWord, deviceWord, entriesIn, adaptersIn, devicesFrom, devicesIn}
 use Rattle.tables.proofs.Laws.{rising-entries, rising-adapters}
 use Rattle.load.specs.Loading.{itself, andThen, loadAdapter, loadAdapters, routerCs1, upstreamIn, deviceRow, deviceRows, fits, noRegisters, loadDevice, loadFrom, loaded}
-use Rattle.load.specs.Answers.{refusedBy, rowsBy, loadedRows, UsableBy, acceptedAnswer, acceptedOutcome}
+use Rattle.load.specs.Answers.{refusedBy, rowsBy, loadedRows, UsableBy}
 use Rattle.load.specs.declared.Refusal.{Refusal}
 use Rattle.load.specs.declared.Refusal.the-variants as refusal
-use Rattle.load.specs.declared.Acceptance.the-variants as acceptance
 use Rattle.load.specs.Work.{rowsSoFar, Passed, adapterRows, AdapterWithin, adaptersRows, AdaptersWithin, ToDevice, fitOutcome, fitsBy, deviceLoadRows, DeviceWithin, withDevice, filledRows, FilledWithin, intoRows, IntoWithin}
 use Rattle.load.specs.declared.AdapterLoad.{AdapterLoad}
 use Rattle.load.specs.declared.AdapterLoad.the-variants as adapter-load
@@ -53,7 +52,6 @@ use Rattle.load.specs.declared.Filled.the-variants as filled
 use Rattle.load.specs.declared.LoadAnswer.{LoadAnswer}
 use Rattle.load.specs.declared.LoadAnswer.the-variants as answer
 use Rattle.load.specs.declared.Loaded.{Loaded}
-use Rattle.load.proofs.Result.{refused-bind}
 use Rattle.load.proofs.Order.{entries-rise, adapters-rise}
 
 -- ---- rows and outcomes
@@ -143,45 +141,6 @@ usable-by t s l (answer.Refused r) same within = within
 pub usable : (t s : List ℕ) (l : Loaded) → loadedRows l ≡ loaded t s → IntoWithin (l .answer) → UsableBy l (l .answer)
 unfolding loadedRows
 usable t s l same within = usable-by t s l (l .answer) same within
-
--- ---- whether a survey is accepted
-
-devices-length : (p : ℕ) (rs ms : List ℕ) → length rs ≡ length ms → length (devicesFrom p rs ms) ≡ length rs
-unfolding devicesFrom
-devices-length p [] ms e = refl
-devices-length p (r ∷ rs) [] e = absurd (omega arith)
-devices-length p (r ∷ rs) (m ∷ ms) e = ap suc (devices-length (suc p) rs ms (omega arith))
-
-module _ (t s : List ℕ) (l : Loaded) (same : loadedRows l ≡ loaded t s) where
-  answer-rows : (a : LoadAnswer) → l .answer ≡ a → loaded t s ≡ rowsBy l a
-  unfolding loadedRows
-  answer-rows a q = sym same ∙ ap (λ x. rowsBy l x) q
-
-  pub accepted-refused : (r : Refusal) → l .answer ≡ answer.Refused r → acceptedOutcome (acceptance.Refused r) ≡ acceptedAnswer t s
-  unfolding acceptedOutcome acceptedAnswer rowsBy
-  accepted-refused r q = sym (ap (λ o. bind o (λ x. value (record { devices = length (x .devices); entries = length (x .entries) }))) (answer-rows (answer.Refused r) q) ∙ refused-bind r _)
-
-  module _ (e a d : ℕ) (q : l .answer ≡ answer.Tables e a d) (usable : UsableBy l (l .answer)) (n : length (l .entries) ≡ 4096) (m : length (l .routes) ≡ 4096) (k : length (l .marks) ≡ 4096) where
-    entry-count : length (entriesIn (take e (l .entries))) ≡ e
-    unfolding UsableBy
-    entry-count =
-        let u = subst (λ x. UsableBy l x) q usable in
-        length-map (take e (l .entries)) entryWord ∙ length-take-le e (l .entries) (omega (arith, u .entries))
-
-    device-count : length (devicesIn (take d (l .routes)) (take d (l .marks))) ≡ d
-    unfolding UsableBy
-    device-count =
-        let u = subst (λ x. UsableBy l x) q usable in
-        let f : length (take d (l .routes)) ≡ d = length-take-le d (l .routes) (omega (arith, u .devices)) in
-        let g : length (take d (l .marks)) ≡ d = length-take-le d (l .marks) (omega (arith, u .devices)) in
-        devices-length 0 (take d (l .routes)) (take d (l .marks)) (f ∙ sym g) ∙ f
-
-    pub accepted-tables : acceptedOutcome (acceptance.Survey d e) ≡ acceptedAnswer t s
-    unfolding acceptedOutcome acceptedAnswer rowsBy bind
-    accepted-tables =
-        sym (ap (λ o. bind o (λ x. value (record { devices = length (x .devices); entries = length (x .entries) }))) (answer-rows (answer.Tables e a d) q)
-        ∙ ap (λ j. value (record { devices = j; entries = length (entriesIn (take e (l .entries))) })) device-count
-        ∙ ap (λ j. value (record { devices = d; entries = j })) entry-count)
 
 -- ---- 3, then 4, then loading
 

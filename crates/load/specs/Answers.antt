@@ -2,20 +2,18 @@
 use Prim.Native.Nat.{ℕ, _≤_}
 use mathlib.Core.List.{List, [], _∷_}
 use mathlib.Core.Option.{Option, none, some}
-use lib.ListN.{length, take}
+use lib.ListN.{take}
 use Rattle.refusal.specs.Outcome.{Outcome, refused, value, bind}
 use Rattle.refusal.specs.Refusal.{refusalOf}
 use Rattle.adapter.specs.Adapter.{AdapterRow}
 use Rattle.tables.specs.Rows.{Rows, DeviceRow, adapterIn, deviceIn}
 use Rattle.tables.specs.Packed.{entriesIn, adaptersIn, devicesIn, entryUnit, adapterUnit, Sorted}
-use Rattle.load.specs.Loading.{loaded, validEntries}
+use Rattle.load.specs.Loading.{loaded}
 use Rattle.load.specs.declared.Refusal.{Refusal}
 use Rattle.load.specs.declared.Refusal.the-variants as refusal
 use Rattle.load.specs.declared.LoadAnswer.{LoadAnswer}
 use Rattle.load.specs.declared.LoadAnswer.the-variants as answer
 use Rattle.load.specs.declared.Loaded.{Loaded}
-use Rattle.load.specs.declared.Acceptance.{Acceptance}
-use Rattle.load.specs.declared.Acceptance.the-variants as accepted
 
 -- 3, 4, a fault of loading, a walk or a route, or 14
 unfoldable pub refusedBy : {A : Type 0} → Refusal → Outcome A
@@ -54,15 +52,3 @@ askedDevice x p = present (deviceIn (x .devices) p)
 
 unfoldable pub askedAdapter : Rows → ℕ → ℕ → Outcome AdapterRow
 askedAdapter x p a = bind (askedDevice x p) (λ d. present (adapterIn (x .adapters) p a))
-
--- whether a survey is accepted, and its numbers of devices and valid entries
-pub record Counts : Type 0 where
-  pub devices : ℕ
-  pub entries : ℕ
-
-unfoldable pub acceptedAnswer : List ℕ → List ℕ → Outcome Counts
-acceptedAnswer t s = bind (loaded t s) (λ x. value (record { devices = length (x .devices); entries = validEntries x }))
-
-unfoldable pub acceptedOutcome : Acceptance → Outcome Counts
-acceptedOutcome (accepted.Survey d e) = value (record { devices = d; entries = e })
-acceptedOutcome (accepted.Refused r) = refusedBy r

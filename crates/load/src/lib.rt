@@ -18,7 +18,7 @@ ghost use Rattle.adapter.specs.Paths.{entriesFrom, entriesBy};
 ghost use Rattle.tables.specs.Found.{upstreamOutcome};
 ghost use Rattle.tables.specs.Packed.{speedBy, numberBy, upstreamBy, entryWord, adapterWord, deviceWord, entriesIn};
 ghost use Rattle.load.specs.Loading.{andThen, owned, loadAdapter, loadAdapters, routerCs1, upstreamIn, numbered, fitting, loadDevice, loadFrom, loaded};
-ghost use Rattle.load.specs.Answers.{loadedRows, UsableBy, acceptedAnswer, acceptedOutcome};
+ghost use Rattle.load.specs.Answers.{loadedRows, UsableBy};
 ghost use Rattle.load.specs.Work.{HopFits, rowsSoFar, pushedRows, OneMore, PushedWithin, adapterRows, AdapterWithin, adaptersRows, AdaptersWithin, fitOutcome, fitsBy, deviceLoadRows, DeviceWithin, filledRows, FilledWithin, intoRows, IntoWithin};
 use adapter::Decoded;
 use adapter::EntryFound;
@@ -58,12 +58,6 @@ pub struct Loaded {
     pub adapters: [u64; 16384],
     pub routes: [u64; 4096],
     pub marks: [u64; 4096],
-}
-
-// Whether a survey is accepted: its devices and valid path entries, or why it is refused.
-pub enum Acceptance {
-    Survey { devices: usize, entries: usize },
-    Refused(Refusal),
 }
 
 // The entries so far, or 6.
@@ -692,21 +686,5 @@ pub fn load(descriptions: &[u32], survey: &[u32]) -> Loaded
         adapters,
         routes,
         marks,
-    }
-}
-
-// Whether a survey is accepted, and how many devices and valid path entries it has.
-pub fn accepted(descriptions: &[u32], survey: &[u32]) -> Acceptance
-    ensures { λ r. ⌜ acceptedOutcome r ≡ acceptedAnswer (now (descriptions .entry)) (now (survey .entry)) ⌝ }
-{
-    let loaded = load(descriptions, survey);
-    let answer = loaded.answer;
-    match answer {
-        LoadAnswer::Refused(refusal) => Acceptance::Refused(refusal),
-        LoadAnswer::Tables {
-            entries,
-            adapters: _,
-            devices,
-        } => Acceptance::Survey { devices, entries },
     }
 }
