@@ -7,6 +7,7 @@ use crate::names::Step;
 use crate::names::number_at;
 use crate::names::one;
 use crate::surveys::listed;
+use acceptance::Acceptance;
 use adapter::HopFound;
 use adapters::AdapterAnswer;
 use adapters::AdapterInfo;
@@ -19,7 +20,6 @@ use devices::DeviceInfo;
 use devices::ParentAnswer;
 use devices::RouteAnswer;
 use devices::UpstreamAnswer;
-use load::Acceptance;
 use load::Refusal;
 use refusal::Fault;
 use refusal::Site;
@@ -309,7 +309,7 @@ fn is(s: Answer, head: u32) -> bool {
 
 // Whether each call on devices answers that one word.
 fn devices_say(d: &[u32], survey: &[u32], place: usize, n: u8, head: u32) -> bool {
-    is(accepted_said(load::accepted(d, survey)), head)
+    is(accepted_said(acceptance::accepted(d, survey)), head)
         && is(device_said(devices::device(d, survey, place)), head)
         && is(
             upstream_said(devices::upstream_adapter(d, survey, place)),
@@ -354,7 +354,7 @@ fn after_question(line: &[u8], at: usize, d: &[u32], survey: &[u32]) -> usize {
     let n = (q % 256) as u8;
     let a = next(line, at);
     if kind == 0 {
-        return after_said(line, a, accepted_said(load::accepted(d, survey)));
+        return after_said(line, a, accepted_said(acceptance::accepted(d, survey)));
     }
     if kind == 1 {
         return after_device(line, a, d, survey, place);
