@@ -10,15 +10,12 @@ use lib.Seq.{length-take-le}
 use Rattle.refusal.specs.Outcome.{Outcome, refused, value, bind}
 use Rattle.refusal.specs.declared.Fault.the-variants as fault
 use Rattle.usb4.specs.declared.Speed.{Speed}
-use Rattle.survey.specs.Devices.{Adapter, devicesOf}
 use Rattle.state.specs.State.{isEnabled, speedOutcome as speedBy}
 use Rattle.state.specs.declared.SpeedFound.the-variants as speed
-use Rattle.adapter.specs.Adapter.{AdapterRow, Part, adapterSite, factsRow, minHop, registersOf, findCap, hopOutcome, capOutcome, maxHopOutcome as maxHopBy}
+use Rattle.adapter.specs.Adapter.{AdapterRow, adapterSite, factsRow, minHop, hopOutcome, maxHopOutcome as maxHopBy}
 use Rattle.adapter.specs.declared.Facts.{Facts}
 use Rattle.adapter.specs.declared.HopFound.{HopFound}
 use Rattle.adapter.specs.declared.MaxHop.the-variants as most
-use Rattle.adapter.specs.declared.CapFound.{CapFound}
-use Rattle.adapter.specs.declared.CapFound.the-variants as cap
 use Rattle.tables.specs.Rows.{Rows, EntryRow, DeviceRow, entryIn, adapterIn}
 use Rattle.tables.specs.Packed.{entriesIn, adaptersIn, devicesIn}
 use Rattle.tables.specs.Found.{entryFound, EntrySought, adapterFound, AdapterSought}
@@ -34,17 +31,13 @@ use Rattle.load.specs.declared.Refusal.{Refusal}
 use Rattle.load.specs.declared.Refusal.the-variants as refusal
 use Rattle.load.specs.declared.LoadAnswer.the-variants as answer
 use Rattle.load.specs.declared.Loaded.{Loaded}
-use Rattle.listing.specs.After.{adapterAt}
-use Rattle.adapters.specs.Calls.{infoIn, infoOf, rowAnswer, adapterAnswer, speedAnswer, maxHopAnswer, pathAnswer, saidAdapter, capabilityAnswer, adapterOutcome, speedOutcome, maxHopOutcome, capabilityOutcome, pathOutcome}
-use Rattle.adapters.specs.Work.{rowOutcome, headOutcome}
+use Rattle.adapters.specs.Calls.{infoIn, infoOf, rowAnswer, adapterAnswer, speedAnswer, maxHopAnswer, pathAnswer, adapterOutcome, speedOutcome, maxHopOutcome, pathOutcome}
+use Rattle.adapters.specs.Work.{rowOutcome}
 use Rattle.adapters.specs.declared.RowFound.{RowFound}
 use Rattle.adapters.specs.declared.RowFound.the-variants as row
-use Rattle.adapters.specs.declared.HeadFound.{HeadFound}
-use Rattle.adapters.specs.declared.HeadFound.the-variants as head
 use Rattle.adapters.specs.declared.AdapterAnswer.the-variants as adapter-answer
 use Rattle.adapters.specs.declared.SpeedAnswer.the-variants as speed-answer
 use Rattle.adapters.specs.declared.MaxHopAnswer.the-variants as max-hop
-use Rattle.adapters.specs.declared.CapAnswer.the-variants as capability
 use Rattle.adapters.specs.declared.PathAnswer.the-variants as path
 
 -- what was loaded, by what loading answered
@@ -61,10 +54,6 @@ module _ (l : Loaded) (t s : List ℕ) (q : loadedRows l ≡ loaded t s) where
     pub path-refused : (p n h : ℕ) → pathOutcome p n h (path.Refused r) ≡ pathAnswer t s p n h
     unfolding pathOutcome pathAnswer
     path-refused p n h = sym (refused-bind r _) ∙ ap (λ (o : Outcome Rows). bind o (λ x. bind (askedAdapter x p n) (λ y. value (entryIn (x .entries) p n h)))) not-loaded
-
-    pub cap-refused : (p n c : ℕ) → capabilityOutcome (capability.Refused r) ≡ capabilityAnswer t s p n c
-    unfolding capabilityOutcome capabilityAnswer
-    cap-refused p n c = sym (refused-bind r _) ∙ ap (λ (o : Outcome Rows). bind o (λ x. bind (present (saidAdapter (devicesOf s) p n)) (λ y. value (findCap c (registersOf y))))) not-loaded
 
   module _ (e a d : ℕ) (k : l .answer ≡ answer.Tables e a d) where
     abbrev held : Rows
@@ -158,32 +147,6 @@ module _ (l : Loaded) (t s : List ℕ) (q : loadedRows l ≡ loaded t s) where
             pub path-found : (out-adapter out-hop : ℕ) → w ≡ entry.Entry out-adapter out-hop → pathOutcome p n hop (path.Entry out-adapter out-hop) ≡ pathAnswer t s p n hop
             unfolding pathOutcome
             path-found x y m = ap (λ o. value (entryFound p n hop o)) (sym m) ∙ path-by
-
-      -- capability, of a head that was looked for
-      module _ (c : ℕ) (f : HeadFound) (g : headOutcome s f ≡ saidAdapter (devicesOf s) p n) where
-        abbrev part : Option Adapter → Outcome (Option Part)
-        part o = bind (present o) (λ y. value (findCap c (registersOf y)))
-
-        to-cap : part (headOutcome s f) ≡ capabilityAnswer t s p n c
-        unfolding capabilityAnswer bind
-        to-cap = ap (λ o. part o) g ∙ ap (λ (o : Outcome Rows). bind o (λ x. part (saidAdapter (devicesOf s) p n))) its-rows
-
-        pub cap-nowhere : f ≡ head.Nowhere → capabilityOutcome (capability.Refused refusal.Missing) ≡ capabilityAnswer t s p n c
-        unfolding capabilityOutcome refusedBy headOutcome present bind
-        cap-nowhere j = ap (λ o. part (headOutcome s o)) (sym j) ∙ to-cap
-
-        module _ (i : ℕ) (j : f ≡ head.Head i) (x : CapFound) (b : capOutcome x ≡ findCap c (registersOf (adapterAt s i))) where
-          cap-by : value (capOutcome x) ≡ capabilityAnswer t s p n c
-          unfolding headOutcome present bind
-          cap-by = ap (λ o. value o) b ∙ ap (λ o. part (headOutcome s o)) (sym j) ∙ to-cap
-
-          pub cap-none : x ≡ cap.None → capabilityOutcome capability.None ≡ capabilityAnswer t s p n c
-          unfolding capabilityOutcome capOutcome
-          cap-none m = ap (λ o. value (capOutcome o)) (sym m) ∙ cap-by
-
-          pub cap-found : (start end : ℕ) → x ≡ cap.Part start end → capabilityOutcome (capability.Part start end) ≡ capabilityAnswer t s p n c
-          unfolding capabilityOutcome capOutcome
-          cap-found start end m = ap (λ o. value (capOutcome o)) (sym m) ∙ cap-by
 
 -- by the row that was found
 module _ (t s : List ℕ) (p n : ℕ) (r : RowFound) (q : rowOutcome p r ≡ rowAnswer t s p n) where

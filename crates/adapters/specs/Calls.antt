@@ -1,21 +1,19 @@
 -- What the calls on one adapter of a survey answer: 3, 4, loading, 14, then 6 only of the call that asks for the field. Assumes nothing.
-use Prim.Native.Nat.{ℕ, suc, zero}
-use mathlib.Core.Bool.{Bool, cond}
-use mathlib.Core.List.{List, [], _∷_}
+use Prim.Native.Nat.{ℕ}
+use mathlib.Core.Bool.{Bool}
+use mathlib.Core.List.{List}
 use mathlib.Core.Option.{Option, none, some}
-use lib.Dec.{eqb}
 use Rattle.refusal.specs.Outcome.{Outcome, value, bind}
 use Rattle.usb4.specs.declared.AdapterType.{AdapterType}
 use Rattle.usb4.specs.declared.State.{State}
 use Rattle.usb4.specs.declared.Speed.{Speed}
-use Rattle.survey.specs.Devices.{Device, Adapter, devicesOf}
 use Rattle.state.specs.State.{isEnabled}
-use Rattle.adapter.specs.Adapter.{AdapterRow, Part, registersOf, findCap, minHop, hopOutcome}
+use Rattle.adapter.specs.Adapter.{AdapterRow, minHop, hopOutcome}
 use Rattle.tables.specs.Rows.{EntryRow, entryIn}
 use Rattle.tables.specs.Found.{entryFound}
 use Rattle.tables.specs.declared.EntryAt.the-variants as entry
 use Rattle.load.specs.Loading.{loaded}
-use Rattle.load.specs.Answers.{refusedBy, present, askedAdapter}
+use Rattle.load.specs.Answers.{refusedBy, askedAdapter}
 use Rattle.adapters.specs.declared.AdapterInfo.{AdapterInfo}
 use Rattle.adapters.specs.declared.AdapterAnswer.{AdapterAnswer}
 use Rattle.adapters.specs.declared.AdapterAnswer.the-variants as adapter-answer
@@ -23,8 +21,6 @@ use Rattle.adapters.specs.declared.SpeedAnswer.{SpeedAnswer}
 use Rattle.adapters.specs.declared.SpeedAnswer.the-variants as speed-answer
 use Rattle.adapters.specs.declared.MaxHopAnswer.{MaxHopAnswer}
 use Rattle.adapters.specs.declared.MaxHopAnswer.the-variants as max-hop
-use Rattle.adapters.specs.declared.CapAnswer.{CapAnswer}
-use Rattle.adapters.specs.declared.CapAnswer.the-variants as capability
 use Rattle.adapters.specs.declared.PathAnswer.{PathAnswer}
 use Rattle.adapters.specs.declared.PathAnswer.the-variants as path
 
@@ -60,20 +56,6 @@ maxHopAnswer t s p a = bind (rowAnswer t s p a) (λ x. x .maxHop)
 unfoldable pub pathAnswer : List ℕ → List ℕ → ℕ → ℕ → ℕ → Outcome (Option EntryRow)
 pathAnswer t s p a h = bind (loaded t s) (λ x. bind (askedAdapter x p a) (λ y. value (entryIn (x .entries) p a h)))
 
--- the adapter that the survey says, by device place and number
-unfoldable pub numberedIn : ℕ → List Adapter → Option Adapter
-numberedIn a [] = none
-numberedIn a (x ∷ xs) = cond (eqb (x .number) a) (some x) (numberedIn a xs)
-
-unfoldable pub saidAdapter : List Device → ℕ → ℕ → Option Adapter
-saidAdapter [] p a = none
-saidAdapter (d ∷ ds) zero a = numberedIn a (d .adapters)
-saidAdapter (d ∷ ds) (suc p) a = saidAdapter ds p a
-
--- its capability part, by indices among its registers
-unfoldable pub capabilityAnswer : List ℕ → List ℕ → ℕ → ℕ → ℕ → Outcome (Option Part)
-capabilityAnswer t s p a cap = bind (loaded t s) (λ x. bind (present (saidAdapter (devicesOf s) p a)) (λ y. value (findCap cap (registersOf y))))
-
 -- document 01's number and values for what the calls answer
 unfoldable pub infoIn : AdapterInfo → Info
 infoIn i = record { kind = i .kind; state = i .state; lane0 = i .lane0; lane1 = i .lane1; minHop = hopOutcome (i .«min_hop»); enabled = i .enabled }
@@ -90,11 +72,6 @@ unfoldable pub maxHopOutcome : MaxHopAnswer → Outcome (Option ℕ)
 maxHopOutcome (max-hop.Hop h) = value (some h)
 maxHopOutcome max-hop.None = value none
 maxHopOutcome (max-hop.Refused r) = refusedBy r
-
-unfoldable pub capabilityOutcome : CapAnswer → Outcome (Option Part)
-capabilityOutcome (capability.Part i j) = value (some (record { start = i; end = j }))
-capabilityOutcome capability.None = value none
-capabilityOutcome (capability.Refused r) = refusedBy r
 
 unfoldable pub pathOutcome : ℕ → ℕ → ℕ → PathAnswer → Outcome (Option EntryRow)
 pathOutcome p a h (path.Entry out hop) = value (entryFound p a h (entry.Entry out hop))

@@ -1,7 +1,7 @@
 use lib.Dec.{eqb}
 use native.Mathlib.Omega.{arith}
 use mathlib.Core.Path.{sym, _∙_, ap}
-use Rattle.adapters.proofs.Heads as laws
+use Rattle.adapters.proofs.Enabled as laws
 use borrow.Author.Needs.{needs}
 use Rattle.adapters.proofs.is_enabled.Statement.{statement}
 use Rattle.adapters.proofs.is_enabled.Tie as tie

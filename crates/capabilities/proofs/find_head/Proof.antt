@@ -3,9 +3,9 @@ use Prim.Native.Nat.{_-_}
 use native.Mathlib.Omega.{arith}
 use borrow.Author.Needs.{needs}
 use mathlib.Core.Path.{_∙_}
-use Rattle.adapters.proofs.Heads as laws
-use Rattle.adapters.proofs.find_head.Statement.{statement}
-use Rattle.adapters.proofs.find_head.Tie as tie
+use Rattle.capabilities.proofs.Heads as laws
+use Rattle.capabilities.proofs.find_head.Statement.{statement}
+use Rattle.capabilities.proofs.find_head.Tie as tie
 
 abbrev Inv-loop : tie.InvT-loop
 Inv-loop survey place number left₀ i₀ left i = laws.Placing survey place number left i

@@ -2,9 +2,9 @@ use lib.ListN.{length}
 use Prim.Native.Nat.{_-_}
 use native.Mathlib.Omega.{arith}
 use borrow.Author.Needs.{needs}
-use Rattle.adapters.proofs.Heads as laws
-use Rattle.adapters.proofs.head_from.Statement.{statement}
-use Rattle.adapters.proofs.head_from.Tie as tie
+use Rattle.capabilities.proofs.Heads as laws
+use Rattle.capabilities.proofs.head_from.Statement.{statement}
+use Rattle.capabilities.proofs.head_from.Tie as tie
 
 abbrev Inv-loop : tie.InvT-loop
 Inv-loop survey from number i₀ i = laws.Seeking survey from number i
