@@ -11,10 +11,10 @@ use acceptance::Acceptance;
 use adapter::HopFound;
 use adapters::AdapterAnswer;
 use adapters::AdapterInfo;
-use adapters::CapAnswer;
 use adapters::MaxHopAnswer;
 use adapters::PathAnswer;
 use adapters::SpeedAnswer;
+use capabilities::CapAnswer;
 use devices::DeviceAnswer;
 use devices::DeviceInfo;
 use devices::ParentAnswer;
@@ -273,7 +273,7 @@ fn after_cap(
     after_said(
         line,
         at,
-        cap_said(adapters::capability(d, survey, place, n, cap)),
+        cap_said(capabilities::capability(d, survey, place, n, cap)),
     )
 }
 
@@ -331,7 +331,10 @@ fn adapters_say(d: &[u32], survey: &[u32], place: usize, n: u8, head: u32) -> bo
     is(adapter_said(adapters::adapter(d, survey, place, n)), head)
         && is(speed_said(adapters::link_speed(d, survey, place, n)), head)
         && is(max_hop_said(adapters::max_hop(d, survey, place, n)), head)
-        && is(cap_said(adapters::capability(d, survey, place, n, 4)), head)
+        && is(
+            cap_said(capabilities::capability(d, survey, place, n, 4)),
+            head,
+        )
         && is(path_said(adapters::path(d, survey, place, n, 8)), head)
 }
 
