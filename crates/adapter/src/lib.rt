@@ -121,7 +121,7 @@ fn parse_kind(survey: &[u32], at: usize) -> KindFound
     let Third::Value(value) = third_value(survey, at + 1) else {
         return KindFound::Few;
     };
-    KindFound::Kind(usb4::adapter_type(util::bits(value, 0, 23)))
+    KindFound::Kind(codes::adapter_type(util::bits(value, 0, 23)))
 }
 
 // The registers from the first with a cap id after index 0 up to the last, if there are two.

@@ -186,7 +186,7 @@ fn lane_state(descriptions: &[u32], survey: &[u32], from: usize, site: Site) -> 
     else {
         return StateFound::Refused(Fault::NoField(site));
     };
-    StateFound::State(usb4::lane_state(code))
+    StateFound::State(codes::lane_state(code))
 }
 
 // Where the first register at an offset stands; the length where there is none.
@@ -378,5 +378,5 @@ pub fn link_speed(
     ) else {
         return SpeedFound::NoField;
     };
-    SpeedFound::Speed(usb4::speed_of(code))
+    SpeedFound::Speed(codes::speed_of(code))
 }

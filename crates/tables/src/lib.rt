@@ -253,7 +253,7 @@ fn device_of(route: u64, mark: u64) -> DeviceFacts
     ensures { λ r. ⌜ ((p : ℕ) → deviceRow p r ≡ deviceWord p route mark) ⌝ }
 {
     DeviceFacts {
-        kind: usb4::device_kind((mark / 281474976710656 % 16) as u32),
+        kind: codes::device_kind((mark / 281474976710656 % 16) as u32),
         usb4: mark / 4503599627370496 % 16 == 1,
         domain: (mark % 4294967296) as u32,
         route,

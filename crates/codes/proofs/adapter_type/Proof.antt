@@ -1,64 +1,52 @@
 use borrow.Author.Tests.{ne-eqb}
 use Rattle.usb4.specs.Codes.{typeOf}
-use Rattle.usb4.proofs.adapter_type.Statement.{statement}
-use Rattle.usb4.proofs.adapter_type.Tie as tie
+use Rattle.codes.proofs.adapter_type.Statement.{statement}
+use Rattle.codes.proofs.adapter_type.Tie as tie
 
--- src/lib.rt:97:9
 returns : tie.Need-returns
 unfolding typeOf
 returns c = simp (c .if1 .taken)
 
--- src/lib.rt:100:9
 returns-2 : tie.Need-returns-2
 unfolding typeOf
 returns-2 c = simp (c .if2 .taken)
 
--- src/lib.rt:103:9
 returns-3 : tie.Need-returns-3
 unfolding typeOf
 returns-3 c = simp (c .if3 .taken)
 
--- src/lib.rt:106:9
 returns-4 : tie.Need-returns-4
 unfolding typeOf
 returns-4 c = simp (c .if4 .taken)
 
--- src/lib.rt:109:9
 returns-5 : tie.Need-returns-5
 unfolding typeOf
 returns-5 c = simp (c .if5 .taken)
 
--- src/lib.rt:112:9
 returns-6 : tie.Need-returns-6
 unfolding typeOf
 returns-6 c = simp (c .if6 .taken)
 
--- src/lib.rt:115:9
 returns-7 : tie.Need-returns-7
 unfolding typeOf
 returns-7 c = simp (c .if7 .taken)
 
--- src/lib.rt:118:9
 returns-8 : tie.Need-returns-8
 unfolding typeOf
 returns-8 c = simp (c .if8 .taken)
 
--- src/lib.rt:121:9
 returns-9 : tie.Need-returns-9
 unfolding typeOf
 returns-9 c = simp (c .if9 .taken)
 
--- src/lib.rt:124:9
 returns-10 : tie.Need-returns-10
 unfolding typeOf
 returns-10 c = simp (c .if10 .taken)
 
--- src/lib.rt:127:9
 returns-11 : tie.Need-returns-11
 unfolding typeOf
 returns-11 c = simp (c .if11 .taken)
 
--- src/lib.rt:93:1
 returns-12 : tie.Need-returns-12
 unfolding typeOf
 returns-12 c = simp (ne-eqb _ _ (c .before .before .before .before .before .before .before .before .before .before .if1 .left), ne-eqb _ _ (c .before .before .before .before .before .before .before .before .before .if2 .left), ne-eqb _ _ (c .before .before .before .before .before .before .before .before .if3 .left), ne-eqb _ _ (c .before .before .before .before .before .before .before .if4 .left), ne-eqb _ _ (c .before .before .before .before .before .before .if5 .left), ne-eqb _ _ (c .before .before .before .before .before .if6 .left), ne-eqb _ _ (c .before .before .before .before .if7 .left), ne-eqb _ _ (c .before .before .before .if8 .left), ne-eqb _ _ (c .before .before .if9 .left), ne-eqb _ _ (c .before .if10 .left), ne-eqb _ _ (c .if11 .left))

@@ -1,49 +1,40 @@
 use borrow.Author.Tests.{ne-eqb}
 use Rattle.usb4.specs.Codes.{laneStateOf}
-use Rattle.usb4.proofs.lane_state.Statement.{statement}
-use Rattle.usb4.proofs.lane_state.Tie as tie
+use Rattle.codes.proofs.lane_state.Statement.{statement}
+use Rattle.codes.proofs.lane_state.Tie as tie
 
--- src/lib.rt:137:9
 returns : tie.Need-returns
 unfolding laneStateOf
 returns c = simp (c .if1 .taken)
 
--- src/lib.rt:140:9
 returns-2 : tie.Need-returns-2
 unfolding laneStateOf
 returns-2 c = simp (c .if2 .taken)
 
--- src/lib.rt:143:9
 returns-3 : tie.Need-returns-3
 unfolding laneStateOf
 returns-3 c = simp (c .if3 .taken)
 
--- src/lib.rt:146:9
 returns-4 : tie.Need-returns-4
 unfolding laneStateOf
 returns-4 c = simp (c .if4 .taken)
 
--- src/lib.rt:149:9
 returns-5 : tie.Need-returns-5
 unfolding laneStateOf
 returns-5 c = simp (c .if5 .taken)
 
--- src/lib.rt:152:9
 returns-6 : tie.Need-returns-6
 unfolding laneStateOf
 returns-6 c = simp (c .if6 .taken)
 
--- src/lib.rt:155:9
 returns-7 : tie.Need-returns-7
 unfolding laneStateOf
 returns-7 c = simp (c .if7 .taken)
 
--- src/lib.rt:158:9
 returns-8 : tie.Need-returns-8
 unfolding laneStateOf
 returns-8 c = simp (c .if8 .taken)
 
--- src/lib.rt:133:1
 returns-9 : tie.Need-returns-9
 unfolding laneStateOf
 returns-9 c = simp (ne-eqb _ _ (c .before .before .before .before .before .before .before .if1 .left), ne-eqb _ _ (c .before .before .before .before .before .before .if2 .left), ne-eqb _ _ (c .before .before .before .before .before .if3 .left), ne-eqb _ _ (c .before .before .before .before .if4 .left), ne-eqb _ _ (c .before .before .before .if5 .left), ne-eqb _ _ (c .before .before .if6 .left), ne-eqb _ _ (c .before .if7 .left), ne-eqb _ _ (c .if8 .left))
