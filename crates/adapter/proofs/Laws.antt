@@ -1,4 +1,4 @@
--- Laws of adapters: what their registers, their kind, their lanes and their path entries come to. Assumes nothing.
+-- Laws of adapters: what their registers, their kind and their lanes come to. Assumes nothing.
 use Prim.Native.Nat.{ℕ, suc, _+_, _/_, _%_, _≤_, _<_}
 use mathlib.Core.Path.{_≡_, refl, sym, ap, _∙_, subst}
 use mathlib.Core.List.{List, [], _∷_}
@@ -11,8 +11,8 @@ use lib.Dec.{ltb, leb, eqb}
 use lib.ListN.{length, List·getD-eq-default}
 use borrow.Author.Tests.{lt-ltb, le-ltb, le-leb, lt-leb, eq-eqb, ne-eqb}
 use Rattle.refusal.proofs.Laws.{fault-bind}
-use Rattle.refusal.specs.Outcome.{Outcome, value, bind}
-use Rattle.refusal.specs.Refusal.{at, refusalOf}
+use Rattle.refusal.specs.Outcome.{value, bind}
+use Rattle.refusal.specs.Refusal.{refusalOf}
 use Rattle.refusal.specs.declared.Site.{Site}
 use Rattle.refusal.specs.declared.Fault.{Fault}
 use Rattle.refusal.specs.declared.Fault.the-variants.{FewRegisters, NoField}
@@ -23,35 +23,27 @@ use Rattle.usb4.specs.Numbers.{typeNumber}
 use Rattle.usb4.specs.declared.AdapterType.{AdapterType}
 use Rattle.usb4.specs.declared.AdapterType.the-variants as type
 use Rattle.usb4.specs.declared.State.{State}
-use Rattle.layout.specs.Layout.{low, word}
-use Rattle.layout.specs.Description.{Description, described, descriptionsOf}
-use Rattle.naming.specs.Naming.{naming, placeOf, foundPlace}
-use Rattle.naming.specs.declared.Found.{Found}
-use Rattle.naming.specs.declared.Found.the-variants as place
+use Rattle.layout.specs.Layout.{word}
+use Rattle.layout.specs.Description.{Description, described}
 use Rattle.fields.specs.Names.{findField}
-use Rattle.fields.specs.declared.FieldFound.{FieldFound}
-use Rattle.fields.specs.declared.FieldFound.the-variants.{Bits, Missing}
-use Rattle.metadata.specs.Calls.{valueIn, flagIn}
-use Rattle.metadata.proofs.Named.{named-from, found-at, found-none}
+use Rattle.fields.specs.declared.FieldFound.the-variants.{Missing}
+use Rattle.metadata.specs.Calls.{valueIn}
 use Rattle.register.specs.Line.{registerOf}
 use Rattle.register.specs.declared.Register.{Register}
 use Rattle.survey.specs.Devices.{Adapter, registerIn}
 use Rattle.listing.specs.After.{after, listed, registerAt, adapterAt, NextRegister}
 use Rattle.listing.proofs.Laws.{after-end, register-end}
-use Rattle.named.specs.Named.{Named, pathSpace, adapterSpace, named, byName, sited, wantedField, wantedFlag, namedAt, fieldRead, flagRead}
+use Rattle.named.specs.Named.{Named, adapterSpace, byName, sited, wantedField, namedAt, fieldRead}
 use Rattle.named.specs.declared.NamedFound.{NamedFound}
 use Rattle.named.specs.declared.NamedFound.the-variants as named-found
 use Rattle.named.specs.declared.FieldRead.{FieldRead}
 use Rattle.named.specs.declared.FieldRead.the-variants as field
-use Rattle.named.specs.declared.FlagRead.{FlagRead}
-use Rattle.named.specs.declared.FlagRead.the-variants as flag
 use Rattle.state.specs.State.{stateOf, linkSpeed, stateOutcome, speedOutcome, ofKind}
 use Rattle.state.specs.declared.SpeedFound.{SpeedFound}
 use Rattle.state.specs.declared.StateFound.{StateFound}
 use Rattle.state.specs.declared.StateFound.the-variants as state-found
 use Rattle.adapter.specs.Adapter.{thirdValue, kindOf, registersOf, indicesFrom, lastOf, Part, between, findCap, found, isLane, capUsb4, isLane0, lane0Of, lane1Of, narrow, maxHopIn, maxHop, parseState, AdapterRow, adapterSite, fewRegisters, rowOf, decodeOf, maxHopOutcome, capOutcome, factsRow, decodedOutcome}
-use Rattle.adapter.specs.Paths.{PathEntry, entryIn, entryOf, entryOutcome}
-use Rattle.adapter.specs.Work.{ThirdOf, KindIs, rowBy, leads, LeadsBy}
+use Rattle.adapter.specs.Work.{ThirdOf, KindIs, rowBy}
 use Rattle.adapter.specs.declared.Facts.{Facts}
 use Rattle.adapter.specs.declared.Third.{Third}
 use Rattle.adapter.specs.declared.Third.the-variants as third
@@ -62,8 +54,6 @@ use Rattle.adapter.specs.declared.MaxHop.the-variants as most
 use Rattle.adapter.specs.declared.CapFound.{CapFound}
 use Rattle.adapter.specs.declared.CapFound.the-variants as cap-found
 use Rattle.adapter.specs.declared.Decoded.the-variants as decoded
-use Rattle.adapter.specs.declared.EntryFound.{EntryFound}
-use Rattle.adapter.specs.declared.EntryFound.the-variants as entry
 
 -- the registers from i on, by the first of them
 module _ (t : List ℕ) (i r : ℕ) (n : NextRegister t false i r) where
@@ -363,67 +353,6 @@ module _ (s : Site) (t v : List ℕ) (o : Option Named) (f : NamedFound) (e : na
     pub most-is : (m : ℕ) → r ≡ field.Value m → m ≤ 65535 → maxHopOutcome s (most.Hop m) ≡ maxHopIn s o
     unfolding maxHopOutcome fieldRead sited bind narrow
     most-is m y l = sym (most-by ∙ ap (λ z. bind (sited s (fieldRead z)) (λ m. value (narrow m))) y ∙ ap (λ b. value (cond b (some m) none)) (le-leb m 65535 l))
-
--- where a path entry leads
-module _ (t : List ℕ) (g v : ℕ) (a : FieldRead) (ea : fieldRead a ≡ valueIn v (findField (bytesOf "Output HopID") (described t g .fields))) where
-  pub leads-no-hop : a ≡ field.Missing → LeadsBy t g v entry.NoField
-  unfolding LeadsBy leads fieldRead
-  leads-no-hop k = ap (λ z. leads z (valueIn v (findField (bytesOf "Output Adapter") (described t g .fields)))) (sym (ap fieldRead k) ∙ ea)
-
-  module _ (hop : ℕ) (k : a ≡ field.Value hop) (b : FieldRead) (eb : fieldRead b ≡ valueIn v (findField (bytesOf "Output Adapter") (described t g .fields))) where
-    leads-by : (z : FieldRead) → b ≡ z → LeadsBy t g v (leads (value hop) (fieldRead z))
-    unfolding LeadsBy fieldRead
-    leads-by z m =
-        ap (λ x. leads (value hop) x) (sym (ap fieldRead m) ∙ eb)
-        ∙ ap (λ x. leads x (valueIn v (findField (bytesOf "Output Adapter") (described t g .fields)))) (sym (ap fieldRead k) ∙ ea)
-
-    pub leads-no-out : b ≡ field.Missing → LeadsBy t g v entry.NoField
-    unfolding leads fieldRead
-    leads-no-out m = leads-by field.Missing m
-
-    pub leads-to : (out : ℕ) → b ≡ field.Value out → LeadsBy t g v (entry.Entry (out % 256) (hop % 65536))
-    unfolding leads fieldRead
-    leads-to out m = leads-by (field.Value out) m
-
--- an entry whose Valid is set
-entry-by : (s : Site) (o v : ℕ) (a b : FieldFound)
-    → entryOutcome s o (leads (valueIn v a) (valueIn v b)) ≡ bind (sited s (valueIn v a)) (λ hop. bind (sited s (valueIn v b)) (λ out. value (some (record { inHop = o / 2; outAdapter = out % 256; outHop = hop % 65536 }))))
-unfolding entryOutcome leads valueIn sited bind refusalOf
-entry-by s o v Missing b = refl
-entry-by s o v (Bits i j) Missing = refl
-entry-by s o v (Bits i j) (Bits k l) = refl
-
-module _ (t : List ℕ) (kind w ids vs v : ℕ) (f : Found)
-    (e : foundPlace f ≡ placeOf (naming (record { space = 2; kind = kind; offset = ids / 65536 % 65536; cap = ids % 65536; vs = vs }) (descriptionsOf t))) where
-  abbrev answer : Site → Outcome (Option PathEntry)
-  answer s = entryOf s (registerIn w ids vs v) (named (descriptionsOf t) pathSpace kind (registerIn w ids vs v))
-
-  pub entry-nameless : f ≡ place.Nowhere → (s : Site) → entryOutcome s (low w 15) entry.NoField ≡ answer s
-  unfolding entryOutcome entryOf named registerIn registerOf wantedFlag flagIn sited bind refusalOf
-  entry-nameless k s = sym (ap (λ z. entryOf s (registerIn w ids vs v) z) (found-none f _ e k))
-
-  module _ (g : ℕ) (k : f ≡ place.At g) (r : FlagRead) (h : flagRead r ≡ flagIn v (bytesOf "Valid") (some (described t g))) (s : Site) where
-    named-at : named (descriptionsOf t) pathSpace kind (registerIn w ids vs v) ≡ some (described t g)
-    unfolding named registerIn registerOf
-    named-at =
-        let d = found-at f _ e g k in
-        d .1 ∙ ap some (named-from t _ (d .0) (d .1) .is ∙ ap (λ z. described t z) (d .2))
-
-    entry-is : (z : FlagRead) → r ≡ z → answer s ≡ bind (sited s (flagRead z)) (λ valid. entryIn s (registerIn w ids vs v) (some (described t g)) valid)
-    unfolding entryOf wantedFlag registerIn registerOf
-    entry-is z m = ap (λ x. entryOf s (registerIn w ids vs v) x) named-at ∙ ap (λ x. bind (sited s x) (λ valid. entryIn s (registerIn w ids vs v) (some (described t g)) valid)) (sym h ∙ ap flagRead m)
-
-    pub entry-flagless : r ≡ flag.Missing → entryOutcome s (low w 15) entry.NoField ≡ answer s
-    unfolding entryOutcome flagRead sited bind refusalOf
-    entry-flagless m = sym (entry-is flag.Missing m)
-
-    pub entry-invalid : r ≡ flag.Clear → entryOutcome s (low w 15) entry.Invalid ≡ answer s
-    unfolding entryOutcome flagRead sited bind entryIn
-    entry-invalid m = sym (entry-is flag.Clear m)
-
-    pub entry-valid : r ≡ flag.Set → (x : EntryFound) → LeadsBy t g v x → entryOutcome s (low w 15) x ≡ answer s
-    unfolding flagRead sited bind entryIn LeadsBy wantedField registerIn registerOf
-    entry-valid m x q = ap (λ z. entryOutcome s (low w 15) z) q ∙ entry-by s (low w 15) v _ _ ∙ sym (entry-is flag.Set m)
 
 pub most-of : (ds : List Description) (s : Site) (k : AdapterType) (n : ℕ) (rs : List Register) (h : MaxHop) → n ≡ typeNumber k
     → maxHopOutcome s h ≡ maxHopIn s (byName ds adapterSpace n (bytesOf "ADP_CS_5") rs) → maxHopOutcome s h ≡ maxHop ds s k rs

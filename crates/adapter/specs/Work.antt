@@ -1,14 +1,10 @@
 -- For the contracts of private functions only. No promise to a caller rests on these. Assumes nothing.
-use Prim.Native.Nat.{ℕ, _%_, _≤_, _<_}
+use Prim.Native.Nat.{ℕ, _≤_, _<_}
 use mathlib.Core.Path.{_≡_}
 use mathlib.Core.Bool.{Bool, true, false, not, _&&_}
 use mathlib.Core.List.{List}
 use lib.ListN.{length}
-use Rattle.refusal.specs.Outcome.{Outcome, refused, value}
-use Rattle.util.specs.Text.{bytesOf}
-use Rattle.layout.specs.Description.{Description, described}
-use Rattle.fields.specs.Names.{findField}
-use Rattle.metadata.specs.Calls.{valueIn}
+use Rattle.layout.specs.Description.{Description}
 use Rattle.register.specs.declared.Register.{Register}
 use Rattle.survey.specs.Devices.{Adapter}
 use Rattle.usb4.specs.declared.AdapterType.{AdapterType}
@@ -19,8 +15,6 @@ use Rattle.adapter.specs.declared.Third.{Third}
 use Rattle.adapter.specs.declared.Third.the-variants as third
 use Rattle.adapter.specs.declared.KindFound.{KindFound}
 use Rattle.adapter.specs.declared.KindFound.the-variants as kind-found
-use Rattle.adapter.specs.declared.EntryFound.{EntryFound}
-use Rattle.adapter.specs.declared.EntryFound.the-variants as entry
 
 -- the third of at least three registers
 unfoldable pub ThirdOf : List Register → Third → Type 0
@@ -44,13 +38,3 @@ rowBy ds p usb4 n k rs st = record {
   speed = linkSpeed ds (adapterSite p n) k st rs;
   maxHop = maxHop ds (adapterSite p n) k rs;
 }
-
--- where an entry with these fields leads
-unfoldable pub leads : Outcome ℕ → Outcome ℕ → EntryFound
-leads (value hop) (value out) = entry.Entry (out % 256) (hop % 65536)
-leads (value hop) (refused n vs) = entry.NoField
-leads (refused n vs) out = entry.NoField
-
-unfoldable pub LeadsBy : List ℕ → ℕ → ℕ → EntryFound → Type 0
-LeadsBy t g v r =
-    r ≡ leads (valueIn v (findField (bytesOf "Output HopID") (described t g .fields))) (valueIn v (findField (bytesOf "Output Adapter") (described t g .fields)))

@@ -1,22 +1,16 @@
-// Adapters (module 5): what one adapter of survey words is loaded to, its capabilities and its path entries. Any words will do.
+// Adapters (module 5): what one adapter of survey words is loaded to, and its capabilities. Any words will do.
 ghost use mathlib.Core.Path.{_≡_};
 ghost use mathlib.Core.Bool.{_&&_, not};
 ghost use Prim.Native.Nat.{ℕ};
 ghost use Rattle.refusal.specs.declared.Site.{Site};
 ghost use Rattle.util.specs.Text.{bytesOf};
-ghost use Rattle.layout.specs.Layout.{low};
 ghost use Rattle.layout.specs.Description.{descriptionsOf};
-ghost use Rattle.survey.specs.Devices.{registerIn};
 ghost use Rattle.listing.specs.After.{after, adapterAt};
-ghost use Rattle.named.specs.Named.{pathSpace, adapterSpace, named, byName};
-ghost use Rattle.adapter.specs.Adapter.{registersOf, findCap, isLane, isLane0, minHop, maxHopIn, decodeOf, hopOutcome, maxHopOutcome, capOutcome, decodedOutcome, factsRow};
-ghost use Rattle.adapter.specs.Paths.{entryOf, entryOutcome};
-ghost use Rattle.adapter.specs.Work.{ThirdOf, KindIs, rowBy, LeadsBy};
+ghost use Rattle.named.specs.Named.{adapterSpace, named, byName};
+ghost use Rattle.adapter.specs.Adapter.{registersOf, findCap, isLane, isLane0, maxHopIn, decodeOf, maxHopOutcome, capOutcome, decodedOutcome, factsRow};
+ghost use Rattle.adapter.specs.Work.{ThirdOf, KindIs, rowBy};
 use named::FieldRead;
-use named::FlagRead;
 use named::NamedFound;
-use naming::Found;
-use naming::Sought;
 use refusal::Fault;
 use refusal::Site;
 use state::SpeedFound;
@@ -185,26 +179,6 @@ fn is_lane1(kind: AdapterType, lane0: bool) -> bool
     !lane0
 }
 
-// The least HopID of an adapter of a kind.
-pub fn min_hop(kind: AdapterType) -> HopFound
-    ensures { λ r. ⌜ hopOutcome r ≡ minHop kind ⌝ }
-{
-    match kind {
-        AdapterType::Unknown => HopFound::None,
-        AdapterType::Inactive => HopFound::None,
-        AdapterType::Lane => HopFound::Hop(8),
-        AdapterType::HostInterface => HopFound::Hop(1),
-        AdapterType::DisplayPortIn => HopFound::Hop(8),
-        AdapterType::DisplayPortOut => HopFound::Hop(8),
-        AdapterType::PcieDown => HopFound::Hop(8),
-        AdapterType::PcieUp => HopFound::Hop(8),
-        AdapterType::Usb3Down => HopFound::Hop(8),
-        AdapterType::Usb3Up => HopFound::Hop(8),
-        AdapterType::Usb3GenTDown => HopFound::Hop(8),
-        AdapterType::Usb3GenTUp => HopFound::Hop(8),
-    }
-}
-
 // The largest HopID of an adapter of a kind, by the kind's number.
 fn max_hop(descriptions: &[u32], survey: &[u32], from: usize, kind: u32) -> MaxHop
     ensures { λ r. ⌜ ((s : Site) → maxHopOutcome s r ≡ maxHopIn s (byName (descriptionsOf (now (descriptions .entry))) adapterSpace kind (bytesOf "ADP_CS_5") (after (now (survey .entry)) from .registers))) ⌝ }
@@ -283,50 +257,4 @@ pub fn capability(survey: &[u32], at: usize, cap: u32) -> CapFound
     ensures { λ r. ⌜ capOutcome r ≡ findCap cap (registersOf (adapterAt (now (survey .entry)) at)) ⌝ }
 {
     find_cap(survey, registers_from(survey, at), cap)
-}
-
-// Where a valid path register leads: Output HopID, then Output Adapter.
-fn entry_fields(descriptions: &[u32], group: usize, value: u32) -> EntryFound
-    ensures { λ r. ⌜ LeadsBy (now (descriptions .entry)) group value r ⌝ }
-{
-    let FieldRead::Value(hop) = named::field_value(descriptions, group, value, b"Output HopID")
-    else {
-        return EntryFound::NoField;
-    };
-    let FieldRead::Value(out) = named::field_value(descriptions, group, value, b"Output Adapter")
-    else {
-        return EntryFound::NoField;
-    };
-    EntryFound::Entry {
-        out_adapter: (out % 256) as u8,
-        out_hop: (hop % 65536) as u16,
-    }
-}
-
-// A path register's entry, by its words and the number of its adapter's kind: Valid, then Output HopID, then Output Adapter.
-pub fn entry_of(
-    descriptions: &[u32],
-    kind: u32,
-    w: u32,
-    ids: u32,
-    vs: u32,
-    value: u32,
-) -> EntryFound
-    ensures { λ r. ⌜ ((s : Site) → entryOutcome s (low w 15) r ≡ entryOf s (registerIn w ids vs value) (named (descriptionsOf (now (descriptions .entry))) pathSpace kind (registerIn w ids vs value))) ⌝ }
-{
-    let q = Sought {
-        space: 2,
-        kind,
-        offset: ids / 65536 % 65536,
-        cap: ids % 65536,
-        vs,
-    };
-    let Found::At(group) = naming::find_group(descriptions, q) else {
-        return EntryFound::NoField;
-    };
-    match named::flag_value(descriptions, group, value, b"Valid") {
-        FlagRead::Missing => EntryFound::NoField,
-        FlagRead::Clear => EntryFound::Invalid,
-        FlagRead::Set => entry_fields(descriptions, group, value),
-    }
 }

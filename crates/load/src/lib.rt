@@ -227,7 +227,7 @@ fn push_entry(
     let ids = layout::word_at(survey, i + 1);
     let vs = layout::word_at(survey, i + 2);
     let value = layout::word_at(survey, i + 3);
-    match adapter::entry_of(descriptions, kind, w, ids, vs, value) {
+    match paths::entry_of(descriptions, kind, w, ids, vs, value) {
         EntryFound::NoField => Pushed::NoField,
         EntryFound::Invalid => Pushed::Entries {
             count: n,
@@ -298,7 +298,7 @@ fn push_entries(
     ensures { λ r. ⌜ pushedRows site (now (entries .exit)) r ≡ bind (entriesBy (descriptionsOf (now (descriptions .entry))) site (typeNumber kind) (after (now (survey .entry)) (at + 1) .entries) (minHop kind)) (λ es. value (entriesIn (take n (now (entries .entry))) ++ map (owned (site .place) (site .adapter)) es)) ⌝ }
     ensures { λ r. ⌜ PushedWithin (now (survey .entry)) (at + 1) r ⌝ }
 {
-    let HopFound::Hop(least) = adapter::min_hop(kind) else {
+    let HopFound::Hop(least) = paths::min_hop(kind) else {
         return Pushed::Entries {
             count: n,
             next: at + 1,

@@ -1,8 +1,8 @@
-use Rattle.adapter.proofs.Laws as laws
+use Rattle.paths.proofs.Laws as laws
 use Rattle.util.specs.Text.{bytesOf}
 use borrow.Author.Needs.{needs}
-use Rattle.adapter.proofs.entry_of.Statement.{statement}
-use Rattle.adapter.proofs.entry_of.Tie as tie
+use Rattle.paths.proofs.entry_of.Statement.{statement}
+use Rattle.paths.proofs.entry_of.Tie as tie
 
 find-group-requires : tie.Need-find-group-requires
 find-group-requires c κs = search needs

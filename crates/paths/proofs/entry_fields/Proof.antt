@@ -1,8 +1,8 @@
-use Rattle.adapter.proofs.Laws as laws
+use Rattle.paths.proofs.Laws as laws
 use Rattle.util.specs.Text.{bytesOf}
 use borrow.Author.Needs.{needs}
-use Rattle.adapter.proofs.entry_fields.Statement.{statement}
-use Rattle.adapter.proofs.entry_fields.Tie as tie
+use Rattle.paths.proofs.entry_fields.Statement.{statement}
+use Rattle.paths.proofs.entry_fields.Tie as tie
 
 slice-aggregate-field-value : tie.Need-slice-aggregate-field-value
 slice-aggregate-field-value c = search needs

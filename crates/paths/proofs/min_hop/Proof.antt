@@ -1,8 +1,8 @@
 use mathlib.Core.Path.{sym, ap}
 use Rattle.adapter.specs.Adapter.{hopOutcome, minHop}
 use borrow.Author.Needs.{needs}
-use Rattle.adapter.proofs.min_hop.Statement.{statement}
-use Rattle.adapter.proofs.min_hop.Tie as tie
+use Rattle.paths.proofs.min_hop.Statement.{statement}
+use Rattle.paths.proofs.min_hop.Tie as tie
 
 enum-told : tie.Need-enum-told
 enum-told c = search needs
