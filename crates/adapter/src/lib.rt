@@ -218,7 +218,7 @@ fn facts_of(
 {
     let lane0 = is_lane0(survey, from, usb4, kind, number);
     let lane1 = is_lane1(kind, lane0);
-    let speed = state::link_speed(descriptions, survey, from, kind, state);
+    let speed = speed::link_speed(descriptions, survey, from, kind, state);
     let max_hop = max_hop(descriptions, survey, from, usb4::type_number(kind));
     Facts {
         number,

@@ -1,8 +1,8 @@
 use Rattle.state.specs.State.{hasSpeed}
 use mathlib.Core.Path.{sym, ap}
 use borrow.Author.Needs.{needs}
-use Rattle.state.proofs.has_speed.Statement.{statement}
-use Rattle.state.proofs.has_speed.Tie as tie
+use Rattle.speed.proofs.has_speed.Statement.{statement}
+use Rattle.speed.proofs.has_speed.Tie as tie
 
 enum-told : tie.Need-enum-told
 enum-told c = search needs

@@ -2,10 +2,10 @@ use Rattle.util.specs.Text.{bytesOf}
 use borrow.Author.Tests.{not-true, not-false}
 use mathlib.Core.Path.{sym, _∙_}
 use native.Mathlib.Omega.{arith}
 use Rattle.state.proofs.Laws as laws
 use borrow.Author.Needs.{needs}
-use Rattle.state.proofs.link_speed.Statement.{statement}
-use Rattle.state.proofs.link_speed.Tie as tie
+use Rattle.speed.proofs.link_speed.Statement.{statement}
+use Rattle.speed.proofs.link_speed.Tie as tie
 
 type-number-requires : tie.Need-type-number-requires
 type-number-requires c κs = search needs
