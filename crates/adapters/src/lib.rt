@@ -73,7 +73,7 @@ fn find_row(descriptions: &[u32], survey: &[u32], place: usize, number: u8) -> R
                 return RowFound::Refused(Refusal::Missing);
             }
             let table = loaded.adapters;
-            match tables::find_adapter(&table[..adapters], place, number) {
+            match search::find_adapter(&table[..adapters], place, number) {
                 AdapterFound::Nowhere => RowFound::Refused(Refusal::Missing),
                 AdapterFound::Adapter(facts) => RowFound::Adapter(facts),
             }
@@ -178,7 +178,7 @@ pub fn path(
                 return PathAnswer::Refused(Refusal::Missing);
             }
             let table = loaded.adapters;
-            let AdapterFound::Adapter(_) = tables::find_adapter(&table[..adapters], place, number)
+            let AdapterFound::Adapter(_) = search::find_adapter(&table[..adapters], place, number)
             else {
                 return PathAnswer::Refused(Refusal::Missing);
             };
@@ -186,7 +186,7 @@ pub fn path(
             let EntryAt::Entry {
                 out_adapter,
                 out_hop,
-            } = tables::find_entry(&rows[..entries], place, number, in_hop)
+            } = search::find_entry(&rows[..entries], place, number, in_hop)
             else {
                 return PathAnswer::None;
             };

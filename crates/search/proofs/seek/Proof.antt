@@ -1,10 +1,10 @@
 use Rattle.tables.proofs.Laws.{below-next, ends-meet}
 use native.Mathlib.Omega.{arith}
 use denote.Ref.{now}
 use lib.ListN.{length, getD}
 use Prim.Native.Nat.{_≤_, _<_, _-_, _/_}
-use Rattle.tables.proofs.seek.Statement.{statement}
-use Rattle.tables.proofs.seek.Tie as tie
+use Rattle.search.proofs.seek.Statement.{statement}
+use Rattle.search.proofs.seek.Tie as tie
 
 abbrev Inv-loop : tie.InvT-loop
 Inv-loop table bound lo₀ hi₀ lo hi = (lo ≤ hi) × (hi ≤ length table) × (0 < lo → getD table (lo - 1) 0 < bound) × (hi < length table → bound ≤ getD table hi 0)

@@ -1,9 +1,9 @@
 use Rattle.tables.proofs.Laws.{adapter-past, adapter-missing, adapter-found}
 use native.Mathlib.Omega.{arith}
 use denote.Ref.{now}
 use borrow.Author.Needs.{needs}
-use Rattle.tables.proofs.find_adapter.Statement.{statement}
-use Rattle.tables.proofs.find_adapter.Tie as tie
+use Rattle.search.proofs.find_adapter.Statement.{statement}
+use Rattle.search.proofs.find_adapter.Tie as tie
 
 -- src/lib.rt:224:9
 returns : tie.Need-returns

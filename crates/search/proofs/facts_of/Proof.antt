@@ -1,7 +1,7 @@
 use Rattle.tables.proofs.Laws.{facts-made}
 use borrow.Author.Needs.{needs}
-use Rattle.tables.proofs.facts_of.Statement.{statement}
-use Rattle.tables.proofs.facts_of.Tie as tie
+use Rattle.search.proofs.facts_of.Statement.{statement}
+use Rattle.search.proofs.facts_of.Tie as tie
 
 -- src/lib.rt:209:17
 cast-t4 : tie.Need-cast-t4

@@ -1,8 +1,8 @@
 use Rattle.tables.specs.Packed.{speedBy}
 use Rattle.state.specs.State.{speedOutcome}
 use borrow.Author.Tests.{ne-eqb}
-use Rattle.tables.proofs.speed_by.Statement.{statement}
-use Rattle.tables.proofs.speed_by.Tie as tie
+use Rattle.search.proofs.speed_by.Statement.{statement}
+use Rattle.search.proofs.speed_by.Tie as tie
 
 -- src/lib.rt:176:9
 returns : tie.Need-returns

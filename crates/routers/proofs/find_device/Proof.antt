@@ -1,12 +1,12 @@
 use native.Mathlib.Omega.{arith}
 use Rattle.tables.proofs.Laws.{device-past-routes, device-past-marks, device-at}
 use Rattle.tables.specs.Found.{deviceFound}
 use mathlib.Core.Option.{some}
 use mathlib.Core.Path.{ap, _∙_}
 use denote.Ref.{now}
 use borrow.Author.Needs.{needs}
-use Rattle.tables.proofs.find_device.Statement.{statement}
-use Rattle.tables.proofs.find_device.Tie as tie
+use Rattle.routers.proofs.find_device.Statement.{statement}
+use Rattle.routers.proofs.find_device.Tie as tie
 
 -- src/lib.rt:269:9
 returns : tie.Need-returns

@@ -1,7 +1,7 @@
 use Rattle.tables.specs.Packed.{typeBy}
 use borrow.Author.Tests.{ne-eqb}
-use Rattle.tables.proofs.type_by.Statement.{statement}
-use Rattle.tables.proofs.type_by.Tie as tie
+use Rattle.search.proofs.type_by.Statement.{statement}
+use Rattle.search.proofs.type_by.Tie as tie
 
 -- src/lib.rt:102:9
 returns : tie.Need-returns

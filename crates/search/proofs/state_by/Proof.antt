@@ -1,7 +1,7 @@
 use Rattle.tables.specs.Packed.{stateBy}
 use borrow.Author.Tests.{ne-eqb}
-use Rattle.tables.proofs.state_by.Statement.{statement}
-use Rattle.tables.proofs.state_by.Tie as tie
+use Rattle.search.proofs.state_by.Statement.{statement}
+use Rattle.search.proofs.state_by.Tie as tie
 
 -- src/lib.rt:142:9
 returns : tie.Need-returns

@@ -1,7 +1,7 @@
 use Rattle.tables.proofs.Laws.{device-made}
 use borrow.Author.Needs.{needs}
-use Rattle.tables.proofs.device_of.Statement.{statement}
-use Rattle.tables.proofs.device_of.Tie as tie
+use Rattle.routers.proofs.device_of.Statement.{statement}
+use Rattle.routers.proofs.device_of.Tie as tie
 
 -- src/lib.rt:256:33
 cast-device-kind : tie.Need-cast-device-kind

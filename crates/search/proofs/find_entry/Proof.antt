@@ -1,9 +1,9 @@
 use Rattle.tables.proofs.Laws.{entry-past, entry-missing, entry-found}
 use native.Mathlib.Omega.{arith}
 use denote.Ref.{now}
 use borrow.Author.Needs.{needs}
-use Rattle.tables.proofs.find_entry.Statement.{statement}
-use Rattle.tables.proofs.find_entry.Tie as tie
+use Rattle.search.proofs.find_entry.Statement.{statement}
+use Rattle.search.proofs.find_entry.Tie as tie
 
 -- src/lib.rt:80:9
 returns : tie.Need-returns

@@ -1,8 +1,8 @@
 use Rattle.tables.proofs.Laws.{upstream-none, upstream-lacks, upstream-given}
 use Rattle.tables.specs.Found.{upstreamOutcome}
 use borrow.Author.Needs.{needs}
-use Rattle.tables.proofs.upstream_by.Statement.{statement}
-use Rattle.tables.proofs.upstream_by.Tie as tie
+use Rattle.routers.proofs.upstream_by.Statement.{statement}
+use Rattle.routers.proofs.upstream_by.Tie as tie
 
 -- src/lib.rt:243:9
 returns : tie.Need-returns

@@ -1,15 +1,15 @@
 use Rattle.tables.proofs.Laws.{router-here, router-on, router-past-routes, router-past-marks}
 use Rattle.tables.specs.Found.{routerFound}
 use Rattle.tables.specs.Packed.{devicesFrom}
 use Rattle.tables.specs.Rows.{routerFrom}
 use native.Mathlib.Omega.{arith}
 use denote.Ref.{now}
 use lib.ListN.{length, drop}
 use mathlib.Core.Logic.{⊎-elim}
 use mathlib.Core.Path.{_≡_, refl, sym, _∙_}
 use Prim.Native.Nat.{_≤_, _-_}
-use Rattle.tables.proofs.find_router.Statement.{statement}
-use Rattle.tables.proofs.find_router.Tie as tie
+use Rattle.routers.proofs.find_router.Statement.{statement}
+use Rattle.routers.proofs.find_router.Tie as tie
 
 abbrev Inv-loop : tie.InvT-loop
 Inv-loop routes marks domain route i₀ i = (i ≤ length routes) × (routerFrom 0 (devicesFrom 0 routes marks) domain route ≡ routerFrom i (devicesFrom i (drop i routes) (drop i marks)) domain route)

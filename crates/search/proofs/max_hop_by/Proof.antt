@@ -1,8 +1,8 @@
 use Rattle.tables.proofs.Laws.{number-none, number-lacks, number-given}
 use Rattle.adapter.specs.Adapter.{maxHopOutcome}
 use borrow.Author.Needs.{needs}
-use Rattle.tables.proofs.max_hop_by.Statement.{statement}
-use Rattle.tables.proofs.max_hop_by.Tie as tie
+use Rattle.search.proofs.max_hop_by.Statement.{statement}
+use Rattle.search.proofs.max_hop_by.Tie as tie
 
 -- src/lib.rt:196:9
 returns : tie.Need-returns

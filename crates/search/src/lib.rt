@@ -1,0 +1,196 @@
+// Searches in the tables of path entries and adapters, by key. Any words will do; where a table's keys fall, what is found is free.
+ghost use Prim.Native.Nat.{_/_, _<_};
+ghost use mathlib.Core.Path.{_≡_};
+ghost use Rattle.adapter.specs.Adapter.{factsRow, maxHopOutcome};
+ghost use Rattle.state.specs.State.{speedOutcome};
+ghost use Rattle.tables.specs.Packed.{typeBy, stateBy, speedBy, numberBy, adapterWord};
+ghost use Rattle.tables.specs.Found.{Boundary, EntrySought, AdapterSought};
+ghost use Rattle.refusal.specs.declared.Site.{Site};
+use adapter::Facts;
+use adapter::MaxHop;
+use state::SpeedFound;
+use tables::AdapterFound;
+use tables::EntryAt;
+use usb4::AdapterType;
+use usb4::Speed;
+use usb4::State;
+
+// Where the words that are not below a bound begin, in words that are in order.
+fn seek(table: &[u64], bound: u64) -> usize
+    ensures { λ r. ⌜ Boundary (now (table .entry)) bound r ⌝ }
+{
+    let mut lo: usize = 0;
+    let mut hi = table.len();
+    while lo < hi {
+        let mid = lo + (hi - lo) / 2;
+        if table[mid] < bound {
+            lo = mid + 1;
+        } else {
+            hi = mid;
+        }
+    }
+    lo
+}
+
+// The first entry for a HopID at an adapter of a device.
+pub fn find_entry(entries: &[u64], place: usize, adapter: u8, hop: u16) -> EntryAt
+    ensures { λ r. ⌜ EntrySought (now (entries .entry)) place adapter hop r ⌝ }
+{
+    if 65535 < place {
+        return EntryAt::Missing;
+    }
+    let key = (place as u64) * 16777216 + (adapter as u64) * 65536 + (hop as u64);
+    let i = seek(entries, key * 16777216);
+    if entries.len() <= i {
+        return EntryAt::Missing;
+    }
+    let w = entries[i];
+    if w / 16777216 != key {
+        return EntryAt::Missing;
+    }
+    EntryAt::Entry {
+        out_adapter: (w / 65536 % 256) as u8,
+        out_hop: (w % 65536) as u16,
+    }
+}
+
+// A kind by its number.
+fn type_by(number: u64) -> AdapterType
+    ensures { λ r. ⌜ r ≡ typeBy number ⌝ }
+{
+    if number == 1 {
+        return AdapterType::Inactive;
+    }
+    if number == 2 {
+        return AdapterType::Lane;
+    }
+    if number == 3 {
+        return AdapterType::HostInterface;
+    }
+    if number == 4 {
+        return AdapterType::DisplayPortIn;
+    }
+    if number == 5 {
+        return AdapterType::DisplayPortOut;
+    }
+    if number == 6 {
+        return AdapterType::PcieDown;
+    }
+    if number == 7 {
+        return AdapterType::PcieUp;
+    }
+    if number == 8 {
+        return AdapterType::Usb3Down;
+    }
+    if number == 9 {
+        return AdapterType::Usb3Up;
+    }
+    if number == 10 {
+        return AdapterType::Usb3GenTDown;
+    }
+    if number == 11 {
+        return AdapterType::Usb3GenTUp;
+    }
+    AdapterType::Unknown
+}
+
+// A state by its number.
+fn state_by(number: u64) -> State
+    ensures { λ r. ⌜ r ≡ stateBy number ⌝ }
+{
+    if number == 1 {
+        return State::Disabled;
+    }
+    if number == 2 {
+        return State::Enabled;
+    }
+    if number == 3 {
+        return State::Training;
+    }
+    if number == 4 {
+        return State::Cl0;
+    }
+    if number == 5 {
+        return State::Cl0sTx;
+    }
+    if number == 6 {
+        return State::Cl0sRx;
+    }
+    if number == 7 {
+        return State::Cl1;
+    }
+    if number == 8 {
+        return State::Cl2;
+    }
+    if number == 9 {
+        return State::Cld;
+    }
+    State::Unknown
+}
+
+// A speed by its number, or that it is refused.
+fn speed_by(number: u64) -> SpeedFound
+    ensures { λ r. ⌜ ((s : Site) → speedOutcome s r ≡ speedBy s number) ⌝ }
+{
+    if number == 1 {
+        return SpeedFound::Speed(Speed::Gen2);
+    }
+    if number == 2 {
+        return SpeedFound::Speed(Speed::Gen3);
+    }
+    if number == 3 {
+        return SpeedFound::Speed(Speed::Gen4);
+    }
+    if number == 4 {
+        return SpeedFound::NoField;
+    }
+    SpeedFound::Speed(Speed::Unknown)
+}
+
+// A largest HopID by its code.
+fn max_hop_by(code: u64) -> MaxHop
+    requires { ⌜ code < 1048576 ⌝ }
+    ensures { λ r. ⌜ ((s : Site) → maxHopOutcome s r ≡ numberBy s code) ⌝ }
+{
+    if code < 1 {
+        return MaxHop::None;
+    }
+    if code < 2 {
+        return MaxHop::NoField;
+    }
+    MaxHop::Hop((code - 2) as u32)
+}
+
+// The adapter that a word holds.
+fn facts_of(w: u64) -> Facts
+    ensures { λ r. ⌜ factsRow (w / 281474976710656) r ≡ adapterWord w ⌝ }
+{
+    Facts {
+        number: (w / 1099511627776 % 256) as u8,
+        kind: type_by(w / 65536 % 16),
+        state: state_by(w / 4096 % 16),
+        lane0: w / 16 % 16 == 1,
+        lane1: w % 16 == 1,
+        speed: speed_by(w / 256 % 16),
+        max_hop: max_hop_by(w / 1048576 % 1048576),
+    }
+}
+
+// The adapter of a device with a number.
+pub fn find_adapter(adapters: &[u64], place: usize, number: u8) -> AdapterFound
+    ensures { λ r. ⌜ AdapterSought (now (adapters .entry)) place number r ⌝ }
+{
+    if 65535 < place {
+        return AdapterFound::Nowhere;
+    }
+    let key = (place as u64) * 256 + (number as u64);
+    let i = seek(adapters, key * 1099511627776);
+    if adapters.len() <= i {
+        return AdapterFound::Nowhere;
+    }
+    let w = adapters[i];
+    if w / 1099511627776 != key {
+        return AdapterFound::Nowhere;
+    }
+    AdapterFound::Adapter(facts_of(w))
+}
