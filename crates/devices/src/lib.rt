@@ -83,7 +83,7 @@ fn read_device(descriptions: &[u32], survey: &[u32], place: usize) -> DeviceRead
         } => {
             let routes = loaded.routes;
             let marks = loaded.marks;
-            match tables::find_device(&routes[..devices], &marks[..devices], place) {
+            match routers::find_device(&routes[..devices], &marks[..devices], place) {
                 DeviceFound::Nowhere => DeviceRead::Refused(Refusal::Missing),
                 DeviceFound::Device(d) => DeviceRead::Device(d),
             }
@@ -106,7 +106,7 @@ fn read_pair(descriptions: &[u32], survey: &[u32], place: usize, number: u8) -> 
         } => {
             let routes = loaded.routes;
             let marks = loaded.marks;
-            let DeviceFound::Device(d) = tables::find_device(
+            let DeviceFound::Device(d) = routers::find_device(
                 &routes[..devices],
                 &marks[..devices],
                 place,
@@ -114,7 +114,7 @@ fn read_pair(descriptions: &[u32], survey: &[u32], place: usize, number: u8) -> 
                 return PairRead::Refused(Refusal::Missing);
             };
             let table = loaded.adapters;
-            let AdapterFound::Adapter(f) = tables::find_adapter(&table[..adapters], place, number)
+            let AdapterFound::Adapter(f) = search::find_adapter(&table[..adapters], place, number)
             else {
                 return PairRead::Refused(Refusal::Missing);
             };
@@ -240,7 +240,7 @@ pub fn downstream_route(
 fn router_at(routes: &[u64], marks: &[u64], domain: u32, route: u64) -> ParentAnswer
     ensures { λ r. ⌜ parentOutcome r ≡ value (routerFrom 0 (devicesIn (now (routes .entry)) (now (marks .entry))) domain route) ⌝ }
 {
-    let RouterFound::Place(p) = tables::find_router(routes, marks, domain, route) else {
+    let RouterFound::Place(p) = routers::find_router(routes, marks, domain, route) else {
         return ParentAnswer::None;
     };
     ParentAnswer::Place(p)
@@ -265,7 +265,7 @@ fn router_parent(
             adapter: 0,
         }))),
         Upstream::Adapter(a) => {
-            let AdapterFound::Adapter(f) = tables::find_adapter(adapters, place, a) else {
+            let AdapterFound::Adapter(f) = search::find_adapter(adapters, place, a) else {
                 return ParentAnswer::None;
             };
             match upstream_route_of(place, d, f) {
@@ -327,7 +327,7 @@ pub fn parent_from(descriptions: &[u32], survey: &[u32], place: usize) -> Parent
         } => {
             let routes = loaded.routes;
             let marks = loaded.marks;
-            let DeviceFound::Device(d) = tables::find_device(
+            let DeviceFound::Device(d) = routers::find_device(
                 &routes[..devices],
                 &marks[..devices],
                 place,
