@@ -646,7 +646,7 @@ fn load_into(
     if let description::Checked::Refused(p) = description::check(descriptions) {
         return LoadAnswer::Refused(Refusal::Descriptions(p));
     }
-    if let survey::Checked::Refused(p) = survey::check(survey) {
+    if let survey::Checked::Refused(p) = wellformed::check(survey) {
         return LoadAnswer::Refused(Refusal::Survey(p));
     }
     match fill(descriptions, survey, entries, adapters, routes, marks) {

@@ -10,7 +10,7 @@ use Rattle.load.proofs.load_into.Reads as reads
 use Rattle.load.proofs.load_into.Lts as lts
 use Rattle.description.proofs.check.Reads as check-reads
 use Rattle.load.proofs.fill.Reads as fill-reads
-use Rattle.survey.proofs.check.Reads as check-reads′
+use Rattle.wellformed.proofs.check.Reads as check-reads′
 
 -- src/lib.rt:649:47
 check-requires : tie.Need-check-requires

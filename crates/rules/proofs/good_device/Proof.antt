@@ -1,7 +1,7 @@
 use borrow.Author.Tests.{eq-eqb, ne-eqb, lt-leb, le-leb}
 use Rattle.survey.specs.Rules.{goodDevice}
-use Rattle.survey.proofs.good_device.Statement.{statement}
-use Rattle.survey.proofs.good_device.Tie as tie
+use Rattle.rules.proofs.good_device.Statement.{statement}
+use Rattle.rules.proofs.good_device.Tie as tie
 
 -- src/lib.rt:49:9
 returns : tie.Need-returns

@@ -1,7 +1,7 @@
 use borrow.Author.Tests.{lt-leb, le-leb}
 use Rattle.survey.specs.Rules.{goodAdapter}
-use Rattle.survey.proofs.good_adapter.Statement.{statement}
-use Rattle.survey.proofs.good_adapter.Tie as tie
+use Rattle.rules.proofs.good_adapter.Statement.{statement}
+use Rattle.rules.proofs.good_adapter.Tie as tie
 
 -- src/lib.rt:65:9
 returns : tie.Need-returns

@@ -1,9 +1,9 @@
 use mathlib.Core.Path.{sym, _∙_}
 use borrow.Author.Tests.{eq-eqb, ne-eqb, not-true, not-false}
 use Rattle.survey.specs.Rules.{stepOf, afterDevice, afterAdapter, afterRegister}
 use borrow.Author.Needs.{needs}
-use Rattle.survey.proofs.advance.Statement.{statement}
-use Rattle.survey.proofs.advance.Tie as tie
+use Rattle.rules.proofs.advance.Statement.{statement}
+use Rattle.rules.proofs.advance.Tie as tie
 
 -- src/lib.rt:111:13
 good-device-requires : tie.Need-good-device-requires

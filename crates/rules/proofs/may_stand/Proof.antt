@@ -1,10 +1,10 @@
 use mathlib.Core.Path.{_∙_, sym, ap}
 use mathlib.Core.Bool.{not, _&&_, _||_}
 use lib.Dec.{leb}
 use Rattle.survey.proofs.Laws.{adapter-space, path-space}
 use borrow.Author.Tests.{not-true, not-false}
-use Rattle.survey.proofs.may_stand.Statement.{statement}
-use Rattle.survey.proofs.may_stand.Tie as tie
+use Rattle.rules.proofs.may_stand.Statement.{statement}
+use Rattle.rules.proofs.may_stand.Tie as tie
 
 -- src/lib.rt:89:13
 returns : tie.Need-returns

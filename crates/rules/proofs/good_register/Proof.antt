@@ -1,7 +1,7 @@
 use borrow.Author.Tests.{eq-eqb, ne-eqb}
 use Rattle.survey.specs.Rules.{goodRegister}
-use Rattle.survey.proofs.good_register.Statement.{statement}
-use Rattle.survey.proofs.good_register.Tie as tie
+use Rattle.rules.proofs.good_register.Statement.{statement}
+use Rattle.rules.proofs.good_register.Tie as tie
 
 -- src/lib.rt:78:9
 returns : tie.Need-returns

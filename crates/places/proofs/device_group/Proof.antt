@@ -4,11 +4,11 @@ use mathlib.Core.List.{_∷_}
 use native.Mathlib.Omega.{arith}
 use denote.Ref.{now}
 use lib.ListN.{length, drop}
 use Rattle.survey.specs.Places.{deviceHeads, groupAt}
 use Rattle.survey.specs.Work.{headsAt}
 use Rattle.survey.proofs.Laws.{no-group, next-group, this-group}
-use Rattle.survey.proofs.device_group.Statement.{statement}
-use Rattle.survey.proofs.device_group.Tie as tie
+use Rattle.places.proofs.device_group.Statement.{statement}
+use Rattle.places.proofs.device_group.Tie as tie
 
 abbrev Inv-loop : tie.InvT-loop
 Inv-loop survey place at₀ k₀ at k = (k ≤ place) × (drop k (deviceHeads survey) ≡ headsAt survey at) × (at < length survey → headsAt survey at ≡ at ∷ headsAt survey (at + 4)) × (at < length survey → at + 4 ≤ length survey)

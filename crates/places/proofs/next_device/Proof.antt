@@ -1,15 +1,15 @@
 use lib.ListN.{getD, length}
 use Rattle.survey.specs.Words.{sizeOf}
 use Prim.Native.Nat.{_≤_, _<_, _-_, _+_}
 use mathlib.Core.Path.{_≡_, _∙_, sym, ap, refl}
 use native.Mathlib.Omega.{arith}
 use native.Mathlib.Nat.{le-refl}
 use borrow.Author.Needs.{needs}
 use denote.Ref.{now}
 use Rattle.survey.specs.Work.{headsAt}
 use Rattle.survey.proofs.Laws.{heads-end, heads-cut, heads-device, heads-other, size-pos}
-use Rattle.survey.proofs.next_device.Statement.{statement}
-use Rattle.survey.proofs.next_device.Tie as tie
+use Rattle.places.proofs.next_device.Statement.{statement}
+use Rattle.places.proofs.next_device.Tie as tie
 
 abbrev Inv-loop : tie.InvT-loop
 Inv-loop survey from i₀ i = (i ≤ length survey) × (headsAt survey from ≡ headsAt survey i)

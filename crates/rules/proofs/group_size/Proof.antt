@@ -1,7 +1,7 @@
 use borrow.Author.Tests.{eq-eqb, ne-eqb}
 use Rattle.survey.specs.Words.{isLong, sizeOf}
-use Rattle.survey.proofs.group_size.Statement.{statement}
-use Rattle.survey.proofs.group_size.Tie as tie
+use Rattle.rules.proofs.group_size.Statement.{statement}
+use Rattle.rules.proofs.group_size.Tie as tie
 
 -- src/lib.rt:35:9
 returns : tie.Need-returns

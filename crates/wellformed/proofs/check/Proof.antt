@@ -4,11 +4,11 @@ use native.Mathlib.Omega.{arith}
 use borrow.Author.Needs.{needs}
 use denote.Ref.{now}
 use lib.ListN.{length, drop, getD}
 use Rattle.survey.specs.Words.{groupsOf}
 use Rattle.survey.specs.Rules.{start, stepOf, firstBad, checkedOutcome}
 use Rattle.survey.proofs.Laws.{too-long, at-end, at-cut, at-broken, at-next, size-pos}
-use Rattle.survey.proofs.check.Statement.{statement}
-use Rattle.survey.proofs.check.Tie as tie
+use Rattle.wellformed.proofs.check.Statement.{statement}
+use Rattle.wellformed.proofs.check.Tie as tie
 
 abbrev Inv-loop : tie.InvT-loop
 Inv-loop survey u₀ i₀ u i = (i ≤ length survey) × (firstBad 0 start (groupsOf survey) ≡ firstBad i u (groupsOf (drop i survey)))
