@@ -21,7 +21,7 @@ fn check_agrees(words: &[u32], n: usize, status: u32, place: u64) -> bool {
     if words.len() < n {
         return false;
     }
-    match survey::check(&words[..n]) {
+    match wellformed::check(&words[..n]) {
         Checked::WellFormed => status == 0,
         Checked::Refused(p) => status == 4 && p as u64 == place,
     }
@@ -31,7 +31,7 @@ fn group_agrees(words: &[u32], n: usize, place: u64, found: u32, start: u64, end
     if words.len() < n {
         return false;
     }
-    match survey::device_group(&words[..n], place as usize) {
+    match places::device_group(&words[..n], place as usize) {
         Placed::Group(s, e) => found == 1 && s as u64 == start && e as u64 == end,
         Placed::Nowhere => found == 0,
     }
