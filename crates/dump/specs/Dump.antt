@@ -8,7 +8,7 @@ use lib.ListN.{length, drop, replicate}
 use Rattle.refusal.specs.Outcome.{Outcome, refused, value}
 use Rattle.scan.specs.Scan.{lines, isHigh, placeFrom}
 use Rattle.register.specs.Line.{meaning}
-use Rattle.dump.specs.Group.{groupOf, words}
+use Rattle.groups.specs.Group.{groupOf, words}
 use Rattle.dump.specs.Sort.{sort}
 use Rattle.register.specs.declared.Register.{Register}
 use Rattle.register.specs.declared.Met.{Met}

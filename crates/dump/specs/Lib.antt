@@ -1,4 +1,3 @@
 pub mod Dump
-pub mod Group
 pub mod Sort
 pub mod Work
