@@ -10,7 +10,6 @@ use mathlib.Core.Option.{Option, none, some, Option·getD}
 use lib.Dec.{leb, eqb}
 use lib.ListN.{length, take, set}
 use lib.Seq.{take-suc-set}
-use borrow.Author.Tests.{lt-leb, le-leb, eq-eqb, ne-eqb}
 use Rattle.refusal.specs.Outcome.{Outcome, value, refused, bind}
 use Rattle.refusal.specs.Refusal.{refusalOf}
 use Rattle.refusal.specs.declared.Site.{Site}
@@ -51,23 +50,16 @@ none-behind s t n next o e = ap (λ xs. value xs) (sym (append-nil (entriesIn (t
 
 -- the entry of one register
 module _ (ds : List Description) (s : Site) (k least : ℕ) (r : Register) where
-  pub entries-low : r .offset < 2 * least → entriesFrom ds s k least (r ∷ []) ≡ value []
-  unfolding entriesFrom
-  entries-low l = simp (lt-leb (2 * least) (r .offset) l)
+  abbrev looked-at : Bool
+  looked-at = leb (2 * least) (r .offset) && eqb (r .offset % 2) 0
 
-  pub entries-odd : (r .offset % 2 ≡ 0 → ⊥) → entriesFrom ds s k least (r ∷ []) ≡ value []
+  pub entries-none : looked-at ≡ false → entriesFrom ds s k least (r ∷ []) ≡ value []
   unfolding entriesFrom
-  entries-odd n = go (leb (2 * least) (r .offset))
-    where
-      go : (b : Bool) → cond (b && eqb (r .offset % 2) 0) (bind (entryOf s r (named ds pathSpace k r)) (λ e. bind (value []) (λ es. value (withEntry e es)))) (value []) ≡ value []
-      go true = simp (ne-eqb (r .offset % 2) 0 n)
-      go false = refl
+  entries-none e = ap (λ (b : Bool). cond b (bind (entryOf s r (named ds pathSpace k r)) (λ e. bind (value []) (λ es. value (withEntry e es)))) (value [])) e
 
-  -- one that is looked at
-  module _ (l : 2 * least ≤ r .offset) (m : r .offset % 2 ≡ 0) where
-    entries-one : entriesFrom ds s k least (r ∷ []) ≡ bind (entryOf s r (named ds pathSpace k r)) (λ e. value (withEntry e []))
-    unfolding entriesFrom bind
-    entries-one = simp (le-leb (2 * least) (r .offset) l, eq-eqb (r .offset % 2) 0 m)
+  pub entries-one : looked-at ≡ true → entriesFrom ds s k least (r ∷ []) ≡ bind (entryOf s r (named ds pathSpace k r)) (λ e. value (withEntry e []))
+  unfolding entriesFrom bind
+  entries-one e = ap (λ (b : Bool). cond b (bind (entryOf s r (named ds pathSpace k r)) (λ e. bind (value []) (λ es. value (withEntry e es)))) (value [])) e
 
 -- the registers of a list, one after another
 pub entries-cons : (ds : List Description) (s : Site) (k least : ℕ) (r : Register) (rs : List Register)
@@ -106,15 +98,17 @@ module _ (ds : List Description) (s : Site) (k least : ℕ) (t : List ℕ) (i : 
   unfolding registerAt registerIn registerOf
   offset-is = ap (λ x. x % 65536) (sym ew)
 
-  pub push-low : w % 65536 < 2 * least → answer en (pushed.Entries n (i + 4))
-  unfolding OneMore
-  push-low l = (none-behind s en n (i + 4) _ (entries-low ds s k least (registerAt t i) (omega (arith, offset-is))), (omega arith, omega arith, refl))
+  abbrev looked-at-here : Bool
+  looked-at-here = leb (2 * least) (w % 65536) && eqb (w % 65536 % 2) 0
 
-  pub push-odd : (w % 65536 % 2 ≡ 0 → ⊥) → answer en (pushed.Entries n (i + 4))
-  unfolding OneMore
-  push-odd l = (none-behind s en n (i + 4) _ (entries-odd ds s k least (registerAt t i) (λ e. l (ap (λ x. x % 2) (sym offset-is) ∙ e))), (omega arith, omega arith, refl))
+  there : (b : Bool) → looked-at-here ≡ b → (leb (2 * least) (registerAt t i .offset) && eqb (registerAt t i .offset % 2) 0) ≡ b
+  there b e = ap (λ x. leb (2 * least) x && eqb (x % 2) 0) offset-is ∙ e
 
-  module _ (l : 2 * least ≤ w % 65536) (m : w % 65536 % 2 ≡ 0) (ids vs v : ℕ) (ei : ids ≡ word t (i + 1)) (ev : vs ≡ word t (i + 2)) (ex : v ≡ word t (i + 3)) (f : EntryFound)
+  pub push-none : looked-at-here ≡ false → answer en (pushed.Entries n (i + 4))
+  unfolding OneMore
+  push-none e = (none-behind s en n (i + 4) _ (entries-none ds s k least (registerAt t i) (there false e)), (omega arith, omega arith, refl))
+
+  module _ (l : looked-at-here ≡ true) (ids vs v : ℕ) (ei : ids ≡ word t (i + 1)) (ev : vs ≡ word t (i + 2)) (ex : v ≡ word t (i + 3)) (f : EntryFound)
       (e : (z : Site) → entryOutcome z (low w 15) f ≡ entryOf z (registerIn w ids vs v) (named ds pathSpace k (registerIn w ids vs v))) where
     entry-is : entryOf s (registerAt t i) (named ds pathSpace k (registerAt t i)) ≡ entryOutcome s (low w 15) f
     unfolding registerAt
@@ -124,7 +118,7 @@ module _ (ds : List Description) (s : Site) (k least : ℕ) (t : List ℕ) (i : 
         same = rw (ew, ei, ev, ex) refl
 
     one-is : entriesFrom ds s k least (registerAt t i ∷ []) ≡ bind (entryOutcome s (low w 15) f) (λ x. value (withEntry x []))
-    one-is = entries-one ds s k least (registerAt t i) (omega (arith, offset-is)) (ap (λ x. x % 2) offset-is ∙ m) ∙ ap (λ o. bind o (λ x. value (withEntry x []))) entry-is
+    one-is = entries-one ds s k least (registerAt t i) (there true l) ∙ ap (λ o. bind o (λ x. value (withEntry x []))) entry-is
 
     pub push-refused : f ≡ entry.NoField → answer en pushed.NoField
     unfolding pushedRows bind entryOutcome OneMore refusalOf

@@ -212,13 +212,7 @@ fn push_entry(
 {
     let w = layout::word_at(survey, i);
     let offset = w % 65536;
-    if offset < 2 * least {
-        return Pushed::Entries {
-            count: n,
-            next: i + 4,
-        };
-    }
-    if offset % 2 != 0 {
+    if !paths::looked_at(offset, least) {
         return Pushed::Entries {
             count: n,
             next: i + 4,

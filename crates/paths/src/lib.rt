@@ -1,5 +1,8 @@
 // Path entries (module 5): the least HopID of a kind, and what a path register says. Any words will do.
+ghost use Prim.Native.Nat.{_*_, _%_};
 ghost use mathlib.Core.Path.{_≡_};
+ghost use mathlib.Core.Bool.{_&&_};
+ghost use lib.Dec.{leb, eqb};
 ghost use Rattle.refusal.specs.declared.Site.{Site};
 ghost use Rattle.layout.specs.Layout.{low};
 ghost use Rattle.layout.specs.Description.{descriptionsOf};
@@ -34,6 +37,16 @@ pub fn min_hop(kind: AdapterType) -> HopFound
         AdapterType::Usb3GenTDown => HopFound::Hop(8),
         AdapterType::Usb3GenTUp => HopFound::Hop(8),
     }
+}
+
+// Whether a path register at an offset is looked at: even offsets from 2 × the least HopID on.
+pub fn looked_at(offset: u32, least: u32) -> bool
+    ensures { λ r. ⌜ r ≡ leb (2 * least) offset && eqb (offset % 2) 0 ⌝ }
+{
+    if (offset as u64) < 2 * (least as u64) {
+        return false;
+    }
+    offset % 2 == 0
 }
 
 // Where a valid path register leads: Output HopID, then Output Adapter.
