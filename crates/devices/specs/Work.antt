@@ -1,11 +1,9 @@
 -- For the contracts of private functions only. No promise to a caller rests on these. Assumes nothing.
-use Prim.Native.Nat.{ℕ, _≤_}
-use mathlib.Core.List.{List, []}
-use mathlib.Core.Option.{Option, none, some}
+use Prim.Native.Nat.{ℕ}
+use mathlib.Core.List.{List}
 use Rattle.refusal.specs.Outcome.{Outcome, value, bind}
 use Rattle.adapter.specs.Adapter.{AdapterRow, factsRow}
-use Rattle.tables.specs.Rows.{Rows, DeviceRow, adapterIn}
-use Rattle.tables.specs.Packed.{adaptersIn, devicesIn}
+use Rattle.tables.specs.Rows.{DeviceRow, adapterIn}
 use Rattle.tables.specs.Found.{deviceRow}
 use Rattle.load.specs.Loading.{loaded}
 use Rattle.load.specs.Answers.{refusedBy, present, askedDevice}
@@ -33,7 +31,3 @@ readPair t s p a = bind (loaded t s) (λ x. bind (askedDevice x p) (λ d. bind (
 unfoldable pub pairOutcome : ℕ → PairRead → Outcome Pair
 pairOutcome p (pair.Pair d f) = value (record { device = deviceRow p d; adapter = factsRow p f })
 pairOutcome p (pair.Refused r) = refusedBy r
-
--- the rows of tables, but for entries, which play no part here
-unfoldable pub rowsIn : List ℕ → List ℕ → List ℕ → Rows
-rowsIn ad ro ma = record { entries = []; adapters = adaptersIn ad; devices = devicesIn ro ma }

@@ -17,10 +17,10 @@ use adapters::SpeedAnswer;
 use capabilities::CapAnswer;
 use devices::DeviceAnswer;
 use devices::DeviceInfo;
-use devices::ParentAnswer;
-use devices::RouteAnswer;
 use devices::UpstreamAnswer;
+use fabric::RouteAnswer;
 use load::Refusal;
+use parents::ParentAnswer;
 use refusal::Fault;
 use refusal::Site;
 
@@ -245,7 +245,7 @@ fn after_device(line: &[u8], at: usize, d: &[u32], survey: &[u32], place: usize)
         a,
         upstream_said(devices::upstream_adapter(d, survey, place)),
     );
-    after_said(line, b, parent_said(devices::parent_from(d, survey, place)))
+    after_said(line, b, parent_said(parents::parent_from(d, survey, place)))
 }
 
 fn after_routes(line: &[u8], at: usize, d: &[u32], survey: &[u32], place: usize, n: u8) -> usize {
@@ -315,7 +315,7 @@ fn devices_say(d: &[u32], survey: &[u32], place: usize, n: u8, head: u32) -> boo
             upstream_said(devices::upstream_adapter(d, survey, place)),
             head,
         )
-        && is(parent_said(devices::parent_from(d, survey, place)), head)
+        && is(parent_said(parents::parent_from(d, survey, place)), head)
         && is(
             route_said(devices::upstream_route(d, survey, place, n)),
             head,

@@ -1,2 +1,3 @@
 pub mod Starred
+pub mod Paths
 pub mod Walks

@@ -26,11 +26,12 @@ use Rattle.route.specs.Route.{usedBytes, depthOf, upstreamRoute, downstreamRout
 use Rattle.tables.specs.Rows.{EntryRow, Rows, joined, entryIn as entryAt, adapterIn, deviceIn, isRouter, routerFrom}
 use Rattle.load.specs.Answers.{present, askedDevice, askedAdapter}
 use Rattle.load.proofs.Example.{entry, plainRow, routerRow, exampleRows}
-use Rattle.devices.specs.Calls.{isUpstream, routeOr, upstreamRouteOf, downstreamRouteOf}
+use Rattle.fabric.specs.Links.{isUpstream, routeOr, upstreamRouteOf, downstreamRouteOf}
 use Rattle.orbit.specs.Walk.{walkN, hopsN, hopAt, onward, made, turned, arrive, found as foundAt}
-use Rattle.walk.specs.Fabric.{standBy, standAt, upBy, arriveUp, downBy, arriveDown, toDevice, toRouter, toRoute, leadsFrom, leadsBy, leads}
+use Rattle.fabric.specs.Fabric.{standBy, standAt, upBy, arriveUp, downBy, arriveDown, toDevice, toRouter, toRoute, leadsFrom, leadsBy, leads}
 use Rattle.walk.specs.Walking.{turnBy, walkOn}
-use Rattle.walk.specs.Calls.{settled, walkFrom, pathAnswer}
+use Rattle.walk.specs.Rule.{settled, walkFrom}
+use Rattle.walks.specs.Calls.{pathAnswer}
 use Rattle.starred.specs.Table.{Holds, walk, ring, apart}
 
 unfoldable ringRows : Rows

@@ -12,7 +12,7 @@ use Rattle.route.specs.declared.RouteFound.the-variants.{Route}
 use Rattle.description.specs.Rules.{readDescriptions}
 use Rattle.metadata.specs.Ours.{ours}
 use Rattle.tables.specs.Rows.{EntryRow}
-use Rattle.walk.specs.Calls.{pathAnswer}
+use Rattle.walks.specs.Calls.{pathAnswer}
 use Rattle.register.specs.Line.{lineAnswer, registerOf}
 use Rattle.register.specs.declared.Register.{Register}
 

@@ -1,1 +1,3 @@
-pub mod Example
+pub mod Laws
+pub mod Leading
+pub mod Turns

@@ -1,3 +1,4 @@
-pub mod Calls
-pub mod Fabric
 pub mod Walking
+pub mod Rule
+pub mod Tables
+pub mod Work

@@ -1,13 +1,11 @@
--- Document 01, module 7 and demand 3: the walk from a device place, adapter and HopID, hop by hop, and what it comes to. Assumes nothing.
-use Prim.Native.Nat.{ℕ, _+_, _*_}
-use mathlib.Core.Path.{_≡_}
-use mathlib.Core.List.{List, [], _∷_, _++_}
+-- Document 01, module 7: the walk from a device place, adapter and HopID, hop by hop. Assumes nothing.
+use Prim.Native.Nat.{ℕ}
+use mathlib.Core.List.{List, [], _∷_}
 use mathlib.Core.Option.{Option, none, some}
-use lib.ListN.{length}
 use Rattle.refusal.specs.Outcome.{Outcome, refused, value}
 use Rattle.tables.specs.Rows.{EntryRow, Rows, entryIn}
-use Rattle.orbit.specs.Walk.{Turn, Turn.on as goes-on, Turn.ends as comes-to, Walk, Spot.ended, Spot.stopped, walkN, hopsN, EndsAfter, Never}
-use Rattle.walk.specs.Fabric.{Way, Way.on, Way.last, Way.dropped, leads}
+use Rattle.orbit.specs.Walk.{Turn, Turn.on as goes-on, Turn.ends as comes-to, Walk}
+use Rattle.fabric.specs.Fabric.{Way, Way.on, Way.last, Way.dropped, leads}
 
 -- where a walk stands
 pub record Stand : Type 0 where
@@ -39,22 +37,3 @@ walkOn x = record {
 unfoldable pub pathOf : List EntryRow → Option (List EntryRow)
 pathOf [] = none
 pathOf (h ∷ hs) = some (h ∷ hs)
-
--- what a walk comes to: a path with its hops, no path, a refusal as it is met, or 13 exactly when it never ends
-pub data Comes (W : Walk Stand EntryRow End) (s : Stand) : Outcome (Option (List EntryRow)) → Type 0 where
-  stops : (n : ℕ) → EndsAfter W s n → walkN W s n ≡ stopped → Comes W s (value (pathOf (hopsN W s n)))
-  ends : (n : ℕ) → EndsAfter W s n → walkN W s n ≡ ended path → Comes W s (value (some (hopsN W s n)))
-  drops : (n : ℕ) → EndsAfter W s n → walkN W s n ≡ ended noPath → Comes W s (value none)
-  refuses : (n : ℕ) → EndsAfter W s n → (k : ℕ) (vs : List ℕ) → walkN W s n ≡ ended (fault k vs) → Comes W s (refused k vs)
-  never : Never W s → Comes W s (refused 13 [])
-
--- Result words: a path word with name 9 and its hops
-unfoldable pub hopWords : EntryRow → List ℕ
-hopWords e = (10 * 268435456 + e .device * 65536 + e .adapter * 256 + e .outAdapter) ∷ (e .inHop * 65536 + e .outHop) ∷ []
-
-unfoldable pub hopsWords : List EntryRow → List ℕ
-hopsWords [] = []
-hopsWords (e ∷ es) = hopWords e ++ hopsWords es
-
-unfoldable pub pathWords : ℕ → List EntryRow → List ℕ
-pathWords name hs = (9 * 268435456 + name * 65536 + length hs) ∷ hopsWords hs

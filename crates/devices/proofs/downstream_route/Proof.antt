@@ -1,5 +1,6 @@
 use mathlib.Core.Path.{_∙_}
-use Rattle.devices.specs.Calls.{downstreamRouteOf, downstreamRouteAnswer, routeOutcome}
+use Rattle.fabric.specs.Links.{downstreamRouteOf, routeOutcome}
+use Rattle.devices.specs.Calls.{downstreamRouteAnswer}
 use Rattle.devices.proofs.Laws.{pair-refused, pair-both}
 use borrow.Author.Needs.{needs}
 use Rattle.devices.proofs.downstream_route.Statement.{statement}

@@ -1,5 +1,6 @@
 use mathlib.Core.Path.{_∙_}
-use Rattle.devices.specs.Calls.{upstreamRouteOf, upstreamRouteAnswer, routeOutcome}
+use Rattle.fabric.specs.Links.{upstreamRouteOf, routeOutcome}
+use Rattle.devices.specs.Calls.{upstreamRouteAnswer}
 use Rattle.devices.proofs.Laws.{pair-refused, pair-both}
 use borrow.Author.Needs.{needs}
 use Rattle.devices.proofs.upstream_route.Statement.{statement}

@@ -1,0 +1,207 @@
+// The routes of a router's adapters, and where a hop leads, on the tables that a survey is loaded to.
+ghost use Prim.Native.Nat.{ℕ, _<_};
+ghost use mathlib.Core.Path.{_≡_};
+ghost use mathlib.Core.Option.{some};
+ghost use Rattle.refusal.specs.Outcome.{value, bind};
+ghost use Rattle.refusal.specs.declared.Site.{Site};
+ghost use Rattle.adapter.specs.Adapter.{factsRow};
+ghost use Rattle.tables.specs.Rows.{adapterIn};
+ghost use Rattle.tables.specs.Packed.{Sorted, adapterUnit, adaptersIn};
+ghost use Rattle.tables.specs.Found.{deviceRow, upstreamOutcome};
+ghost use Rattle.fabric.specs.Links.{isUpstream, upstreamRouteOf, downstreamRouteOf, routeOutcome};
+ghost use Rattle.fabric.specs.Fabric.{standBy, arriveUp, arriveDown, toRoute, leadsFrom, leads};
+ghost use Rattle.fabric.specs.Tables.{nextOutcome, LeadsTo};
+use adapter::Facts;
+use load::Refusal;
+use refusal::Fault;
+use refusal::Site;
+use route::AdapterFound;
+use route::RouteFound;
+use tables::DeviceFacts;
+use tables::DeviceFound;
+use tables::RouterFound;
+use tables::Upstream;
+
+pub enum RouteAnswer {
+    Route(u64),
+    None,
+    Refused(Refusal),
+}
+
+// Where a walk goes after a hop: on to an adapter of the device at a place; no further, this hop last; no path at all; or what refuses it.
+pub enum Next {
+    On { place: usize, adapter: u8 },
+    Last,
+    Dropped,
+    Refused(Refusal),
+}
+
+// Whether an adapter is its router's upstream adapter.
+fn is_upstream(upstream: Upstream, number: u8) -> bool
+    ensures { λ r. ⌜ ((s : Site) → r ≡ isUpstream (upstreamOutcome s upstream) number) ⌝ }
+{
+    match upstream {
+        Upstream::Adapter(a) => a == number,
+        Upstream::None => false,
+        Upstream::NoField => false,
+    }
+}
+
+// The route of the router before an upstream lane; 11 at depth 0.
+pub fn upstream_route_of(place: usize, d: DeviceFacts, f: Facts) -> RouteAnswer
+    ensures { λ r. ⌜ routeOutcome r ≡ upstreamRouteOf place (deviceRow place d) (factsRow place f) ⌝ }
+{
+    let kind = f.kind;
+    if usb4::type_number(kind) != 2 {
+        return RouteAnswer::None;
+    }
+    let upstream = d.upstream;
+    if !is_upstream(upstream, f.number) {
+        return RouteAnswer::None;
+    }
+    let RouteFound::Route(r) = route::upstream_route(d.route) else {
+        return RouteAnswer::Refused(Refusal::Fault(Fault::NoParentRoute(Site {
+            place,
+            adapter: f.number,
+        })));
+    };
+    RouteAnswer::Route(r)
+}
+
+// The route of the router behind a lane; 12 at depth 8.
+pub fn downstream_route_of(place: usize, d: DeviceFacts, f: Facts) -> RouteAnswer
+    ensures { λ r. ⌜ routeOutcome r ≡ downstreamRouteOf place (deviceRow place d) (factsRow place f) ⌝ }
+{
+    let kind = f.kind;
+    if usb4::type_number(kind) != 2 {
+        return RouteAnswer::None;
+    }
+    let RouteFound::Route(r) = route::downstream_route(d.route, f.number) else {
+        return RouteAnswer::Refused(Refusal::Fault(Fault::NoDownstreamRoute(Site {
+            place,
+            adapter: f.number,
+        })));
+    };
+    RouteAnswer::Route(r)
+}
+
+// At an adapter of the device at a place; a missing one gives no path at all.
+fn stand_at(adapters: &[u64], place: usize, number: u8) -> Next
+    ensures { λ r. ⌜ (Sorted adapterUnit (now (adapters .entry)) → place < 65536 → nextOutcome r ≡ value (standBy place number (adapterIn (adaptersIn (now (adapters .entry))) place number))) ⌝ }
+{
+    let tables::AdapterFound::Adapter(_) = search::find_adapter(adapters, place, number) else {
+        return Next::Dropped;
+    };
+    Next::On {
+        place,
+        adapter: number,
+    }
+}
+
+// Up to the first router at a route, at the adapter behind which the device hangs; none there, and this hop is the last.
+fn go_up(adapters: &[u64], routes: &[u64], marks: &[u64], d: DeviceFacts, route: u64) -> Next
+    ensures { λ r. ⌜ ((p : ℕ) → LeadsTo (now (adapters .entry)) (now (routes .entry)) (now (marks .entry)) (λ x. toRoute x (deviceRow p d) (some route) (arriveUp x (deviceRow p d))) r) ⌝ }
+{
+    let RouterFound::Place(q) = routers::find_router(routes, marks, d.domain, route) else {
+        return Next::Last;
+    };
+    let DeviceFound::Device(e) = routers::find_device(routes, marks, q) else {
+        return Next::Dropped;
+    };
+    let AdapterFound::Adapter(n) = route::downstream_adapter(e.domain, e.route, d.domain, d.route)
+    else {
+        return Next::Dropped;
+    };
+    stand_at(adapters, q, n)
+}
+
+// Down to the first router at a route, at its upstream adapter, or 6; none there, and this hop is the last.
+fn go_down(adapters: &[u64], routes: &[u64], marks: &[u64], d: DeviceFacts, route: u64) -> Next
+    ensures { λ r. ⌜ ((p : ℕ) → LeadsTo (now (adapters .entry)) (now (routes .entry)) (now (marks .entry)) (λ x. toRoute x (deviceRow p d) (some route) (arriveDown x)) r) ⌝ }
+{
+    let RouterFound::Place(q) = routers::find_router(routes, marks, d.domain, route) else {
+        return Next::Last;
+    };
+    let DeviceFound::Device(e) = routers::find_device(routes, marks, q) else {
+        return Next::Dropped;
+    };
+    let upstream = e.upstream;
+    match upstream {
+        Upstream::None => Next::Dropped,
+        Upstream::NoField => Next::Refused(Refusal::Fault(Fault::NoField(Site {
+            place: q,
+            adapter: 0,
+        }))),
+        Upstream::Adapter(n) => stand_at(adapters, q, n),
+    }
+}
+
+// From an upstream adapter.
+fn leads_up(
+    adapters: &[u64],
+    routes: &[u64],
+    marks: &[u64],
+    p: usize,
+    d: DeviceFacts,
+    f: Facts,
+) -> Next
+    ensures { λ r. ⌜ LeadsTo (now (adapters .entry)) (now (routes .entry)) (now (marks .entry)) (λ x. bind (upstreamRouteOf p (deviceRow p d) (factsRow p f)) (λ o. toRoute x (deviceRow p d) o (arriveUp x (deviceRow p d)))) r ⌝ }
+{
+    match upstream_route_of(p, d, f) {
+        RouteAnswer::Refused(refusal) => Next::Refused(refusal),
+        RouteAnswer::None => Next::Last,
+        RouteAnswer::Route(route) => go_up(adapters, routes, marks, d, route),
+    }
+}
+
+// From any other adapter.
+fn leads_down(
+    adapters: &[u64],
+    routes: &[u64],
+    marks: &[u64],
+    p: usize,
+    d: DeviceFacts,
+    f: Facts,
+) -> Next
+    ensures { λ r. ⌜ LeadsTo (now (adapters .entry)) (now (routes .entry)) (now (marks .entry)) (λ x. bind (downstreamRouteOf p (deviceRow p d) (factsRow p f)) (λ o. toRoute x (deviceRow p d) o (arriveDown x))) r ⌝ }
+{
+    match downstream_route_of(p, d, f) {
+        RouteAnswer::Refused(refusal) => Next::Refused(refusal),
+        RouteAnswer::None => Next::Last,
+        RouteAnswer::Route(route) => go_down(adapters, routes, marks, d, route),
+    }
+}
+
+// From an out adapter that is there.
+fn leads_from(
+    adapters: &[u64],
+    routes: &[u64],
+    marks: &[u64],
+    p: usize,
+    d: DeviceFacts,
+    f: Facts,
+) -> Next
+    ensures { λ r. ⌜ LeadsTo (now (adapters .entry)) (now (routes .entry)) (now (marks .entry)) (λ x. leadsFrom x p (deviceRow p d) (factsRow p f)) r ⌝ }
+{
+    let upstream = d.upstream;
+    if is_upstream(upstream, f.number) {
+        return leads_up(adapters, routes, marks, p, d, f);
+    }
+    leads_down(adapters, routes, marks, p, d, f)
+}
+
+// Where a hop from the device at a place leads by an out adapter; 10 where that isn't on the router.
+pub fn leads(adapters: &[u64], routes: &[u64], marks: &[u64], place: usize, out_adapter: u8) -> Next
+    ensures { λ r. ⌜ LeadsTo (now (adapters .entry)) (now (routes .entry)) (now (marks .entry)) (λ x. leads x place «out_adapter») r ⌝ }
+{
+    let DeviceFound::Device(d) = routers::find_device(routes, marks, place) else {
+        return Next::Refused(Refusal::Missing);
+    };
+    let tables::AdapterFound::Adapter(f) = search::find_adapter(adapters, place, out_adapter) else {
+        return Next::Refused(Refusal::Fault(Fault::NoOutAdapter(Site {
+            place,
+            adapter: out_adapter,
+        })));
+    };
+    leads_from(adapters, routes, marks, place, d, f)
+}
