@@ -1,7 +1,7 @@
 // The calls on one adapter of a survey. Each loads the survey, and answers from the tables.
 ghost use mathlib.Core.Path.{_≡_};
 ghost use Rattle.state.specs.State.{isEnabled};
-ghost use Rattle.adapters.specs.Calls.{rowAnswer, adapterAnswer, speedAnswer, maxHopAnswer, pathAnswer, adapterOutcome, speedOutcome, maxHopOutcome, pathOutcome};
+ghost use Rattle.adapters.specs.Calls.{rowAnswer, adapterAnswer, speedAnswer, maxHopAnswer, adapterOutcome, speedOutcome, maxHopOutcome};
 ghost use Rattle.adapters.specs.Work.{rowOutcome};
 use adapter::Facts;
 use adapter::HopFound;
@@ -12,7 +12,6 @@ use refusal::Fault;
 use refusal::Site;
 use state::SpeedFound;
 use tables::AdapterFound;
-use tables::EntryAt;
 use usb4::AdapterType;
 use usb4::Speed;
 use usb4::State;
@@ -150,49 +149,6 @@ pub fn max_hop(descriptions: &[u32], survey: &[u32], place: usize, number: u8) -
                     place,
                     adapter: facts.number,
                 }))),
-            }
-        }
-    }
-}
-
-// The first valid entry for a HopID.
-pub fn path(
-    descriptions: &[u32],
-    survey: &[u32],
-    place: usize,
-    number: u8,
-    in_hop: u16,
-) -> PathAnswer
-    ensures { λ r. ⌜ pathOutcome place number «in_hop» r ≡ pathAnswer (now (descriptions .entry)) (now (survey .entry)) place number «in_hop» ⌝ }
-{
-    let loaded = load::load(descriptions, survey);
-    let answer = loaded.answer;
-    match answer {
-        LoadAnswer::Refused(refusal) => PathAnswer::Refused(refusal),
-        LoadAnswer::Tables {
-            entries,
-            adapters,
-            devices,
-        } => {
-            if devices <= place {
-                return PathAnswer::Refused(Refusal::Missing);
-            }
-            let table = loaded.adapters;
-            let AdapterFound::Adapter(_) = search::find_adapter(&table[..adapters], place, number)
-            else {
-                return PathAnswer::Refused(Refusal::Missing);
-            };
-            let rows = loaded.entries;
-            let EntryAt::Entry {
-                out_adapter,
-                out_hop,
-            } = search::find_entry(&rows[..entries], place, number, in_hop)
-            else {
-                return PathAnswer::None;
-            };
-            PathAnswer::Entry {
-                out_adapter,
-                out_hop,
             }
         }
     }

@@ -13,7 +13,7 @@ use Rattle.layout.specs.Layout.{word, kind}
 use Rattle.survey.specs.Devices.{Device, devicesOf}
 use Rattle.listing.specs.After.{after, adapterAt, deviceAt, NextHead}
 use Rattle.listing.proofs.Laws.{after-end, adapter-head, device-head}
-use Rattle.load.proofs.Fitting.{none-left, none-here, some-here}
+use Rattle.numbering.proofs.Laws.{none-left, none-here, some-here}
 use Rattle.capabilities.specs.Capability.{numberedIn, saidAdapter}
 use Rattle.capabilities.specs.Work.{headOutcome}
 use Rattle.capabilities.specs.declared.HeadFound.the-variants as head

@@ -30,7 +30,8 @@ use Rattle.state.specs.State.{byOffset, bothSet, enabledIf, byFlag, byFlags, la
 use Rattle.adapter.specs.Adapter.{AdapterRow, thirdValue, kindOf, registersOf, indicesFrom, lastOf, between, findCap, found, isLane, isLane0, lane0Of, lane1Of, minHop, narrow, maxHopIn, maxHop, parseState, adapterSite, fewRegisters, rowOf, decodeOf}
 use Rattle.adapter.specs.Paths.{entryIn, entryOf, withEntry, entriesFrom, entriesBy, entriesOf}
 use Rattle.tables.specs.Rows.{EntryRow, DeviceRow, Rows, joined}
-use Rattle.load.specs.Loading.{itself, andThen, owned, ownRows, loadAdapter, loadAdapters, routerCs1, upstreamIn, deviceRow, deviceRows, numbered, fitting, fits, noRegisters, loadDevice, loadFrom, loaded}
+use Rattle.numbering.specs.Numbered.{numbered}
+use Rattle.load.specs.Loading.{itself, andThen, owned, ownRows, loadAdapter, loadAdapters, routerCs1, upstreamIn, deviceRow, deviceRows, fitting, fits, noRegisters, loadDevice, loadFrom, loaded}
 
 -- the worked input as words
 unfoldable pub example : List ℕ

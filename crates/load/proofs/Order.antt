@@ -30,7 +30,8 @@ use Rattle.adapter.specs.Adapter.{AdapterRow, adapterSite, kindOf, minHop, pars
 use Rattle.adapter.specs.Paths.{PathEntry, entryIn, entryOf, withEntry, entriesFrom, entriesBy, entriesOf}
 use Rattle.tables.specs.Rows.{Rows, joined}
 use Rattle.tables.proofs.Laws.{Rising, entryKey, adapterKey}
-use Rattle.load.specs.Loading.{missing, andThen, owned, ownRows, loadAdapter, loadAdapters, routerCs1, deviceRows, numbered, fitting, fits, noRegisters, loadDevice, loadFrom, loaded}
+use Rattle.numbering.specs.Numbered.{numbered}
+use Rattle.load.specs.Loading.{missing, andThen, owned, ownRows, loadAdapter, loadAdapters, routerCs1, deviceRows, fitting, fits, noRegisters, loadDevice, loadFrom, loaded}
 
 -- ---- what an outcome holds, where it is a value
 

@@ -3,7 +3,7 @@ use Prim.Native.Nat.{ℕ, suc, _%_}
 use mathlib.Core.Bool.{Bool, cond, not, _&&_}
 use mathlib.Core.List.{List, [], _∷_, map}
 use mathlib.Core.Option.{Option, none, some}
-use lib.Dec.{ltb, eqb}
+use lib.Dec.{eqb}
 use lib.ListN.{length}
 use Rattle.refusal.specs.Outcome.{Outcome, value, bind}
 use Rattle.refusal.specs.Refusal.{refusalOf}
@@ -14,6 +14,7 @@ use Rattle.usb4.specs.Codes.{deviceKindOf}
 use Rattle.layout.specs.Description.{Description}
 use Rattle.description.specs.Rules.{readDescriptions}
 use Rattle.survey.specs.Devices.{Device, Adapter, readSurvey}
+use Rattle.numbering.specs.Numbered.{numbered}
 use Rattle.named.specs.Named.{Named, routerSpace, byName, wantedField}
 use Rattle.adapter.specs.Adapter.{AdapterRow, adapterSite, decodeOf}
 use Rattle.adapter.specs.Paths.{PathEntry, entriesOf}
@@ -67,11 +68,6 @@ deviceRow ds p d = record { kind = deviceKindOf (d .kind); usb4 = d .usb4; domai
 
 unfoldable pub deviceRows : List Description → ℕ → Device → Rows
 deviceRows ds p d = record { entries = []; adapters = []; devices = deviceRow ds p d ∷ [] }
-
--- exactly n, n + 1, .. up to a most, in order
-unfoldable pub numbered : ℕ → ℕ → List Adapter → Bool
-numbered n most [] = eqb n (suc most)
-numbered n most (a ∷ rest) = eqb (a .number) n && ltb n (suc most) && numbered (suc n) most rest
 
 -- a device that has adapters: 7 for kind or name, 6 for Max then Upstream Adapter, 7 for the numbers
 unfoldable pub fitting : ℕ → List Adapter → Option Named → Outcome Unit

@@ -17,7 +17,7 @@ ghost use Rattle.state.specs.State.{speedOutcome};
 ghost use Rattle.adapter.specs.Paths.{entriesFrom, entriesBy};
 ghost use Rattle.tables.specs.Found.{upstreamOutcome};
 ghost use Rattle.tables.specs.Packed.{speedBy, numberBy, upstreamBy, entryWord, adapterWord, deviceWord, entriesIn};
-ghost use Rattle.load.specs.Loading.{andThen, owned, loadAdapter, loadAdapters, routerCs1, upstreamIn, numbered, fitting, loadDevice, loadFrom, loaded};
+ghost use Rattle.load.specs.Loading.{andThen, owned, loadAdapter, loadAdapters, routerCs1, upstreamIn, fitting, loadDevice, loadFrom, loaded};
 ghost use Rattle.load.specs.Answers.{loadedRows, UsableBy};
 ghost use Rattle.load.specs.Work.{HopFits, rowsSoFar, pushedRows, OneMore, PushedWithin, adapterRows, AdapterWithin, adaptersRows, AdaptersWithin, fitOutcome, fitsBy, deviceLoadRows, DeviceWithin, filledRows, FilledWithin, intoRows, IntoWithin};
 use adapter::Decoded;
@@ -409,30 +409,6 @@ fn load_adapters(
     }
 }
 
-// Whether the adapters from a place on are numbered 1 to a most, in order.
-fn numbered_to(survey: &[u32], from: usize, most: u32) -> bool
-    requires { ⌜ most < 256 ⌝ }
-    ensures { λ r. ⌜ r ≡ numbered 1 most (after (now (survey .entry)) from .adapters) ⌝ }
-{
-    let mut number: u32 = 1;
-    let mut i = listing::next_head(survey, from);
-    while i < survey.len() {
-        let w = survey[i];
-        if w / 268435456 % 16 != 4 {
-            return number == most + 1;
-        }
-        if w % 256 != number {
-            return false;
-        }
-        if most < number {
-            return false;
-        }
-        number += 1;
-        i = listing::next_head(survey, i + 1);
-    }
-    number == most + 1
-}
-
 // ROUTER_CS_1 of the device whose head stands at a place, if it is a router whose registers were read.
 fn router_cs_1(descriptions: &[u32], survey: &[u32], at: usize) -> NamedFound
     requires { ⌜ at + 4 ≤ length (now survey) ⌝ }
@@ -489,7 +465,7 @@ fn fits_router(
     else {
         return Fit::Refused(Fault::NoField(site));
     };
-    if !numbered_to(survey, from, most % 256) {
+    if !numbering::numbered_to(survey, from, most) {
         return Fit::Refused(Fault::BadAdapters(place));
     }
     Fit::Fits

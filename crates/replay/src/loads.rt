@@ -335,7 +335,7 @@ fn adapters_say(d: &[u32], survey: &[u32], place: usize, n: u8, head: u32) -> bo
             cap_said(capabilities::capability(d, survey, place, n, 4)),
             head,
         )
-        && is(path_said(adapters::path(d, survey, place, n, 8)), head)
+        && is(path_said(entries::path(d, survey, place, n, 8)), head)
 }
 
 fn after_every(line: &[u8], at: usize, d: &[u32], survey: &[u32], place: usize, n: u8) -> usize {
@@ -368,7 +368,7 @@ fn after_question(line: &[u8], at: usize, d: &[u32], survey: &[u32]) -> usize {
     let more = number_at(line, a);
     if kind == 3 {
         let hop = (more % 65536) as u16;
-        let said = path_said(adapters::path(d, survey, place, n, hop));
+        let said = path_said(entries::path(d, survey, place, n, hop));
         return after_said(line, next(line, a), said);
     }
     if kind == 4 {

@@ -21,7 +21,8 @@ use Rattle.named.specs.Named.{named, orElse, havingName, withRegister as having
 use Rattle.state.specs.State.{byOffset, bothSet, enabledIf, byFlag, byFlags, laneState, ofKind, stateOf, hasSpeed, speedIn, linkSpeed}
 use Rattle.adapter.specs.Adapter.{AdapterRow, thirdValue, kindOf, registersOf, indicesFrom, lastOf, between, findCap, found, isLane, isLane0, lane0Of, lane1Of, minHop, narrow, maxHopIn, maxHop, parseState, adapterSite, fewRegisters, rowOf, decodeOf}
 use Rattle.adapter.specs.Paths.{entryIn, entryOf, withEntry, entriesFrom, entriesBy, entriesOf}
-use Rattle.load.specs.Loading.{itself, andThen, owned, ownRows, loadAdapter, loadAdapters, routerCs1, upstreamIn, deviceRow, deviceRows, numbered, fitting, fits, noRegisters, loadDevice, loadFrom, loaded}
+use Rattle.numbering.specs.Numbered.{numbered}
+use Rattle.load.specs.Loading.{itself, andThen, owned, ownRows, loadAdapter, loadAdapters, routerCs1, upstreamIn, deviceRow, deviceRows, fitting, fits, noRegisters, loadDevice, loadFrom, loaded}
 use Rattle.route.specs.Route.{usedBytes, depthOf, upstreamRoute, downstreamRoute, adapterBeneath, downstreamAdapter}
 use Rattle.tables.specs.Rows.{EntryRow, Rows, joined, entryIn as entryAt, adapterIn, deviceIn, isRouter, routerFrom}
 use Rattle.load.specs.Answers.{present, askedDevice, askedAdapter}

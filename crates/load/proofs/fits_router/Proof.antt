@@ -55,7 +55,7 @@ unfolding bytesOf
 returns-3 c = laws.up-lacks _ _ _ _ _ (c .before .before .before .before .before .before .before .before .before .before .before .cs1 .given .1) _ (c .before .before .before .before .before .before .before .before .before .word-at .ensures) _ _ _ (c .before .before .before .before .before .before .before .field-value .ensures) _ (c .before .before .before .before .before .most .given .1) _ (c .before .before .field-value2 .ensures) (c .enum-told4 .given .1)
 
 numbered-to-requires : tie.Need-numbered-to-requires
-numbered-to-requires c κs = omega arith
+numbered-to-requires c κs = search needs
 
 returns-4 : tie.Need-returns-4
 unfolding bytesOf

@@ -1,10 +1,10 @@
 use Rattle.load.proofs.Result.{sizes}
 use lib.Seq.{length-take-le}
 use mathlib.Core.Path.{sym}
 use Rattle.adapters.proofs.Rows as laws
 use borrow.Author.Needs.{needs}
-use Rattle.adapters.proofs.path.Statement.{statement}
-use Rattle.adapters.proofs.path.Tie as tie
+use Rattle.entries.proofs.path.Statement.{statement}
+use Rattle.entries.proofs.path.Tie as tie
 
 load-requires : tie.Need-load-requires
 load-requires c κs = search needs
