@@ -1,5 +1,5 @@
-"""Document 01's loading, read into Python from its text and not from the Rust: what make-loads compares the Rust's answers with, and
-make-load-rules its expected values. A refusal is an exception. Answers are words, as make-loads says."""
+"""Document 01's loading and walks, read into Python from its text and not from the Rust: what make-loads and make-walks compare the Rust's
+answers with, and make-load-rules and make-walk-rules their expected values. A refusal is an exception. Answers are words, as make-loads says."""
 
 LONGEST = 16384
 UNKNOWN, INACTIVE, LANE, HOST, DP_IN, DP_OUT, PCIE_DOWN, PCIE_UP, USB3_DOWN, USB3_UP, GEN_T_DOWN, GEN_T_UP = range(12)
@@ -251,6 +251,7 @@ def load_adapter(found, device, a, site):
     if a["paths"] == 2 and not a["lane1"]:
         raise Refused(9, *site)
     a["entries"] = entries(found, a, site)
+    a["first"] = {e[0]: e for e in reversed(a["entries"])}
 
 
 def load_device(found, place, device):
@@ -307,7 +308,7 @@ def parent_from(found, devices, place):
     d = devices[place]
     if d["kind"] == 1:
         n = upstream_adapter(found, devices, place)
-        a = next((a for a in d["adapters"] if a["number"] == n), None)
+        a = numbered(d, n)
         if not a or a["kind"] != LANE:
             return None
         route = upstream_route(d["route"], (place, n))
@@ -315,7 +316,24 @@ def parent_from(found, devices, place):
         route = upstream_route(d["route"], (place, 0))
     else:
         return None
-    return next((i for i, p in enumerate(devices) if p["kind"] == 1 and p["domain"] == d["domain"] and p["route"] == route), None)
+    return router_at(devices, d["domain"], route)
+
+
+def router_at(devices, domain, route):
+    """The place of the first router of a domain at a route."""
+    return next((i for i, p in enumerate(devices) if p["kind"] == 1 and p["domain"] == domain and p["route"] == route), None)
+
+
+def downstream_adapter(router, device):
+    """The adapter of a router behind which a device hangs, or None where it isn't right below."""
+    shift = 256 ** depth(router["route"])
+    if device["domain"] != router["domain"] or depth(device["route"]) != depth(router["route"]) + 1 or device["route"] % shift != router["route"]:
+        return None
+    return device["route"] // shift % 256
+
+
+def numbered(d, number):
+    return next((a for a in d["adapters"] if a["number"] == number), None)
 
 
 def link_speed(found, a, site):
@@ -375,11 +393,63 @@ def adapter_answers(found, d, a, place):
 
 
 def path_word(a, hop):
-    return value(lambda: next(((out << 16) + out_hop for h, out, out_hop in a["entries"] if h == hop), None))
+    entry = a["first"].get(hop)
+    return value(lambda: (entry[1] << 16) + entry[2] if entry else None)
+
+
+# ---- the walk (module 7) ------------------------------------------------------------------------
+
+
+def leads(found, devices, place, out):
+    """Where a hop by that out adapter leads: a place and an adapter, True where it is the last, False where there is no path at all."""
+    d = devices[place]
+    a = numbered(d, out)
+    if a is None:
+        raise Refused(10, place, out)
+    if a["kind"] != LANE:
+        return True
+    up, site = out == d["upstream"], (place, out)
+    after = router_at(devices, d["domain"], upstream_route(d["route"], site) if up else downstream_route(d["route"], out, site))
+    if after is None:
+        return True
+    number = downstream_adapter(devices[after], d) if up else upstream_adapter(found, devices, after)
+    return (after, number) if numbered(devices[after], number) else False
+
+
+def walk(found, devices, place, number, hop):
+    """The hops of a walk, each a place, in adapter, in HopID, out adapter and out HopID; None for no path; 13 where it never ends."""
+    hops, stood = [], set()
+    while (place, number, hop) not in stood:
+        stood.add((place, number, hop))
+        entry = numbered(devices[place], number)["first"].get(hop)
+        if entry is None:
+            return hops or None
+        hops.append((place, number, *entry))
+        after = leads(found, devices, place, entry[1])
+        if after is True:
+            return hops
+        if after is False:
+            return None
+        place, number, hop = *after, entry[2]
+    raise Refused(13)
+
+
+def walk_words(found, devices, place, number, start):
+    """The answer for a HopID and a room."""
+    try:
+        hops = walk(found, devices, place, number, start % 65536)
+    except Refused as r:
+        return [r.word()]
+    if hops is None:
+        return [0]
+    words = [9 << 28 | 9 << 16 | len(hops)]
+    for at, enters, hop, leaves, out_hop in hops:
+        words += [10 << 28 | at << 16 | enters << 8 | leaves, hop << 16 | out_hop]
+    return words if len(words) <= start >> 16 else [15 << 28 | 2 << 24 | len(words)]
 
 
 # How many answers a refusal that comes before any of them stands for: one for each call.
-CALLS = {0: 1, 1: 3, 2: 8, 3: 1, 4: 1, 5: 1}
+CALLS = {0: 1, 1: 3, 2: 8, 3: 1, 4: 1, 5: 1, 6: 1}
 
 
 def answers(description_words, survey_words, questions):
@@ -394,7 +464,7 @@ def answers(description_words, survey_words, questions):
         out += q
         kind, place, number = q[0] >> 28, bits(q[0], 8, 27), q[0] & 255
         d = devices[place] if place < len(devices) else None
-        a = next((a for a in d["adapters"] if a["number"] == number), None) if d else None
+        a = numbered(d, number) if d else None
         if refused is not None:
             out += [refused] * CALLS[kind]
         elif kind == 0:
@@ -409,4 +479,6 @@ def answers(description_words, survey_words, questions):
             out += path_word(a, q[1])
         elif kind == 4:
             out += cap_word(a, q[1])
+        elif kind == 6:
+            out += walk_words(found, devices, place, number, q[1])
     return out

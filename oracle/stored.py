@@ -44,9 +44,14 @@ def checking(doc):
     return sys.argv[1:] == ["--check"]
 
 
-def flipped(row, mark):
+def row(*numbers):
+    """A case without input: words."""
+    return "-" + "".join(f" {n:08x}" for n in numbers)
+
+
+def flipped(line, mark):
     """A case with the lowest bit of one of its words flipped: the answer that is wrong on purpose."""
-    parts = row.split(" ")
+    parts = line.split(" ")
     parts[mark] = f"{int(parts[mark], 16) ^ 1:08x}"
     return " ".join(parts)
 

@@ -6,6 +6,7 @@ use std::alloc::{GlobalAlloc, Layout, System};
 use std::cell::RefCell;
 use std::fmt::Write as _;
 use std::io::{Read, Write as _};
+use std::os::fd::FromRawFd;
 use std::panic::{AssertUnwindSafe, catch_unwind};
 use std::path::{Path, PathBuf};
 use std::sync::Mutex;
@@ -25,6 +26,8 @@ use tbtools::{Device, Kind, Version, util};
 struct Watch;
 static LIMIT: AtomicUsize = AtomicUsize::new(0);
 static REFUSALS: AtomicUsize = AtomicUsize::new(0);
+/// In place of a way to print refusals: a walk has this process to itself, and a ring is its exit code.
+const IN_CHILD: usize = 3;
 
 fn out_and_exit(msg: &[u8], code: i32) -> ! {
     unsafe {
@@ -36,10 +39,11 @@ fn out_and_exit(msg: &[u8], code: i32) -> ! {
 fn check(size: usize) {
     let limit = LIMIT.load(SeqCst);
     if limit != 0 && size > limit {
-        if REFUSALS.load(SeqCst) != 0 {
-            out_and_exit(b"refused 13\n", 0)
+        match REFUSALS.load(SeqCst) {
+            0 => out_and_exit(b"loops\n", 0),
+            IN_CHILD => out_and_exit(b"", 13),
+            _ => out_and_exit(b"refused 13\n", 0),
         }
-        out_and_exit(b"loops\n", 0)
     }
 }
 
@@ -580,6 +584,13 @@ fn hop_words(words: &mut Vec<u32>, devices: &[Device], hops: &[tunnel::Hop]) {
     }
 }
 
+/// (01) A single walk's path, with name 9.
+fn path_words(devices: &[Device], p: &tunnel::Path) -> Vec<u32> {
+    let mut words = vec![9 << 28 | 9 << 16 | p.hops().len() as u32];
+    hop_words(&mut words, devices, p.hops());
+    words
+}
+
 fn tunnel_words(words: &mut Vec<u32>, devices: &[Device], t: &Tunnel) {
     const NAMES: [&str; 9] = [
         "USB 3 Down",
@@ -935,8 +946,7 @@ fn walk(place: &str, adapter: &str, hop: &str, as_words: bool) {
         Err(p) => finish(&Fault::panic(&p, locate_walk(&devices, d, a, hop)).line()),
         Ok(None) => finish("absent\n"),
         Ok(Some(p)) if as_words => {
-            let mut words = vec![9 << 28 | 9 << 16 | p.hops().len() as u32];
-            hop_words(&mut words, &devices, p.hops());
+            let words = path_words(&devices, &p);
             finish(&format!("words {}\n{}", words.len(), word_lines(&words)))
         }
         Ok(Some(p)) => {
@@ -1375,6 +1385,49 @@ fn path_word(a: &Adapter, hop: u16) -> u32 {
     answer_word(Ok(entry.map(|e| (e.out_adapter() as u32) << 16 | e.out_hop() as u32)), 0, 0)
 }
 
+/// A walk's answer: 0 for none, a path's words, or the refusal that a panic stands for.
+fn walk_words(devices: &[Device], place: usize, adapter: &Adapter, hop: u16) -> Option<Vec<u32>> {
+    let d = &devices[place];
+    match watched(devices, || Tunnel::discover_path("walk", d, adapter, hop, devices)) {
+        Ok(p) => Some(p.map_or(vec![0], |p| path_words(devices, &p))),
+        Err(p) => {
+            let (at, number) = locate_walk(devices, d, adapter, hop)?;
+            Some(vec![refusal_word(refusal_of(&p), at, number)])
+        }
+    }
+}
+
+/// The words that a piece gives in a process of its own, which a walk that never ends takes with it: 13.
+fn in_child(f: impl FnOnce() -> Option<Vec<u32>>) -> Vec<u32> {
+    let mut ends = [0; 2];
+    unsafe {
+        if libc::pipe(ends.as_mut_ptr()) != 0 {
+            driver_error("pipe");
+        }
+        let child = libc::fork();
+        if child == 0 {
+            REFUSALS.store(IN_CHILD, SeqCst);
+            libc::alarm(timeout());
+            let words = f().unwrap_or_else(|| out_and_exit(b"", 2));
+            let bytes: Vec<u8> = words.iter().flat_map(|w| w.to_le_bytes()).collect();
+            let sent = std::fs::File::from_raw_fd(ends[1]).write_all(&bytes);
+            out_and_exit(b"", sent.is_err() as i32)
+        }
+        libc::close(ends[1]);
+        let mut bytes = Vec::new();
+        std::fs::File::from_raw_fd(ends[0]).read_to_end(&mut bytes).unwrap();
+        let mut status = 0;
+        if child < 0 || libc::waitpid(child, &mut status, 0) != child || !libc::WIFEXITED(status) {
+            driver_error("a walk's process failed");
+        }
+        match libc::WEXITSTATUS(status) {
+            0 => bytes.chunks(4).map(|b| u32::from_le_bytes(b.try_into().unwrap())).collect(),
+            13 => vec![refusal_word(13, 0, 0)],
+            n => driver_error(&format!("a walk's process ended with {n}")),
+        }
+    }
+}
+
 /// The words of all questions and answers about one survey.
 fn load_words(survey: &[u32], questions: &[u32]) -> Option<Vec<u32>> {
     let loaded = load(&word_texts(survey)?);
@@ -1411,6 +1464,12 @@ fn load_words(survey: &[u32], questions: &[u32]) -> Option<Vec<u32>> {
                 let cap = asked.next()?;
                 out.extend([cap, cap_word(adapter?, cap as u16)]);
             }
+            6 => {
+                let start = asked.next()?;
+                let adapter = adapter?;
+                out.push(start);
+                out.extend(in_child(|| walk_words(devices, place, adapter, start as u16)));
+            }
             _ => return None,
         }
     }
@@ -1435,13 +1494,16 @@ fn loads() {
     finish(&out)
 }
 
+fn timeout() -> u32 {
+    std::env::var("ORACLE_TIMEOUT").ok().and_then(|t| t.parse().ok()).unwrap_or(600)
+}
+
 fn main() {
     include_dir::load();
     install_hook();
-    let timeout = std::env::var("ORACLE_TIMEOUT").ok().and_then(|t| t.parse().ok()).unwrap_or(600);
     unsafe {
         libc::signal(libc::SIGALRM, on_alarm as extern "C" fn(libc::c_int) as libc::sighandler_t);
-        libc::alarm(timeout);
+        libc::alarm(timeout());
     }
     let args: Vec<String> = std::env::args().skip(1).collect();
     let args: Vec<&str> = args.iter().map(|s| s.as_str()).collect();

@@ -6,6 +6,8 @@ use crate::case::word;
 use crate::names::Step;
 use crate::names::number_at;
 use crate::names::one;
+use crate::starts::after_walk;
+use crate::starts::walk_says;
 use crate::surveys::listed;
 use acceptance::Acceptance;
 use adapter::HopFound;
@@ -34,7 +36,7 @@ struct Answer {
 }
 
 // A word that no case has.
-const NEVER: u32 = 4294967295;
+pub const NEVER: u32 = 4294967295;
 
 fn short(head: u32) -> Answer {
     Answer {
@@ -84,13 +86,17 @@ fn fault_word(f: Fault) -> u32 {
     }
 }
 
-fn refused(r: Refusal) -> Answer {
+pub fn refusal_word(r: Refusal) -> u32 {
     match r {
-        Refusal::Descriptions(p) => short(placed(0xf3000000, p, 0)),
-        Refusal::Survey(p) => short(placed(0xf4000000, p, 0)),
-        Refusal::Fault(f) => short(fault_word(f)),
-        Refusal::Missing => short(0xfe000000),
+        Refusal::Descriptions(p) => placed(0xf3000000, p, 0),
+        Refusal::Survey(p) => placed(0xf4000000, p, 0),
+        Refusal::Fault(f) => fault_word(f),
+        Refusal::Missing => 0xfe000000,
     }
+}
+
+fn refused(r: Refusal) -> Answer {
+    short(refusal_word(r))
 }
 
 fn accepted_said(a: Acceptance) -> Answer {
@@ -346,6 +352,9 @@ fn after_every(line: &[u8], at: usize, d: &[u32], survey: &[u32], place: usize, 
     if !adapters_say(d, survey, place, n, head) {
         return line.len();
     }
+    if !walk_says(d, survey, place, n, head) {
+        return line.len();
+    }
     next(line, at)
 }
 
@@ -376,6 +385,9 @@ fn after_question(line: &[u8], at: usize, d: &[u32], survey: &[u32]) -> usize {
     }
     if kind == 5 {
         return after_every(line, a, d, survey, place, n);
+    }
+    if kind == 6 {
+        return after_walk(line, a, d, survey, place, n);
     }
     line.len()
 }

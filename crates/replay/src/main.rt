@@ -7,6 +7,7 @@ mod loads;
 mod names;
 mod routes;
 mod rule;
+mod starts;
 mod surveys;
 
 ghost use Prim.Native.Nat.{_<_, _≤_};
@@ -202,4 +203,6 @@ fn main() {
     replay(b"loads", Cases::Loads);
     replay(b"other-loads", Cases::Loads);
     replay(b"load-rules", Cases::Loads);
+    replay(b"walks", Cases::Loads);
+    replay(b"walk-rules", Cases::Loads);
 }

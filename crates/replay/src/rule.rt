@@ -165,11 +165,15 @@ fn after_answer(line: &[u8], at: usize, answer: Dump) -> usize {
     }
 }
 
-// Word i becomes first + i, so that a word that a call writes can be told from one that it keeps.
-fn mark(words: &mut [u32], first: u32) {
+// What stands at i where no call wrote, so that a word that it writes can be told from one that it keeps.
+pub fn mark_at(first: u32, i: usize) -> u32 {
+    std::num::wrapping_add_u32(first, (i % 65536) as u32)
+}
+
+pub fn mark(words: &mut [u32], first: u32) {
     let mut i = 0;
     while i < words.len() {
-        words[i] = std::num::wrapping_add_u32(first, (i % 65536) as u32);
+        words[i] = mark_at(first, i);
         i += 1;
     }
 }

@@ -15,11 +15,8 @@ abbrev μ-loop : tie.MeasureT-loop
 loop-holds : tie.Need-loop-holds Inv-loop μ-loop
 loop-holds c = search needs
 
-cast-wrapping-add-u32 : tie.Need-cast-wrapping-add-u32 Inv-loop μ-loop
-cast-wrapping-add-u32 c = search needs
-
-wrapping-add-u32-requires : tie.Need-wrapping-add-u32-requires Inv-loop μ-loop
-wrapping-add-u32-requires c κs = search needs
+mark-at-requires : tie.Need-mark-at-requires Inv-loop μ-loop
+mark-at-requires c κs = search needs
 
 mul-words : tie.Need-mul-words Inv-loop μ-loop
 mul-words c = search needs
@@ -49,8 +46,7 @@ mark-spec =
     Inv-loop
     μ-loop
     loop-holds
-    cast-wrapping-add-u32
-    wrapping-add-u32-requires
+    mark-at-requires
     mul-words
     slice-write-words
     add-i
