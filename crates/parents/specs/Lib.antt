@@ -1,2 +1,2 @@
 pub mod Parents
-pub mod Work
+pub mod Tables

@@ -1,13 +1,14 @@
 // The parent of a device of a survey.
-ghost use Prim.Native.Nat.{ℕ, _<_};
+ghost use Prim.Native.Nat.{ℕ};
 ghost use mathlib.Core.Path.{_≡_};
 ghost use mathlib.Core.List.{List};
 ghost use Rattle.refusal.specs.Outcome.{value};
-ghost use Rattle.tables.specs.Packed.{Sorted, adapterUnit, devicesIn};
-ghost use Rattle.tables.specs.Rows.{routerFrom};
+ghost use Rattle.tables.specs.Packed.{devicesIn};
+ghost use Rattle.tables.specs.Rows.{EntryRow, routerFrom};
 ghost use Rattle.tables.specs.Found.{deviceRow};
+ghost use Rattle.fabric.specs.Tables.{rowsWith};
 ghost use Rattle.parents.specs.Parents.{routerParent, xdomainParent, parentOf, parentAnswer, parentOutcome};
-ghost use Rattle.parents.specs.Work.{rowsIn};
+ghost use Rattle.parents.specs.Tables.{ParentIs};
 use fabric::RouteAnswer;
 use load::LoadAnswer;
 use load::Refusal;
@@ -45,8 +46,7 @@ fn router_parent(
     place: usize,
     d: DeviceFacts,
 ) -> ParentAnswer
-    requires { ⌜ (place < 65536) × Sorted adapterUnit (now adapters) ⌝ }
-    ensures { λ r. ⌜ parentOutcome r ≡ routerParent (rowsIn (now (adapters .entry)) (now (routes .entry)) (now (marks .entry))) place (deviceRow place d) ⌝ }
+    ensures { λ r. ⌜ ParentIs (now (adapters .entry)) (now (routes .entry)) (now (marks .entry)) place (λ x. routerParent x place (deviceRow place d)) r ⌝ }
 {
     let upstream = d.upstream;
     match upstream {
@@ -70,7 +70,7 @@ fn router_parent(
 
 // An xdomain's parent by its route.
 fn xdomain_parent(routes: &[u64], marks: &[u64], place: usize, d: DeviceFacts) -> ParentAnswer
-    ensures { λ r. ⌜ ((ad : List ℕ) → parentOutcome r ≡ xdomainParent (rowsIn ad (now (routes .entry)) (now (marks .entry))) place (deviceRow place d)) ⌝ }
+    ensures { λ r. ⌜ ((ad : List ℕ) (es : List EntryRow) → parentOutcome r ≡ xdomainParent (rowsWith es ad (now (routes .entry)) (now (marks .entry))) place (deviceRow place d)) ⌝ }
 {
     let RouteFound::Route(r) = route::upstream_route(d.route) else {
         return ParentAnswer::Refused(Refusal::Fault(Fault::NoParentRoute(Site {
@@ -82,15 +82,14 @@ fn xdomain_parent(routes: &[u64], marks: &[u64], place: usize, d: DeviceFacts) -
 }
 
 // A device's parent, in the tables.
-fn parent_of(
+pub fn parent_of(
     routes: &[u64],
     marks: &[u64],
     adapters: &[u64],
     place: usize,
     d: DeviceFacts,
 ) -> ParentAnswer
-    requires { ⌜ (place < 65536) × Sorted adapterUnit (now adapters) ⌝ }
-    ensures { λ r. ⌜ parentOutcome r ≡ parentOf (rowsIn (now (adapters .entry)) (now (routes .entry)) (now (marks .entry))) place (deviceRow place d) ⌝ }
+    ensures { λ r. ⌜ ParentIs (now (adapters .entry)) (now (routes .entry)) (now (marks .entry)) place (λ x. parentOf x place (deviceRow place d)) r ⌝ }
 {
     let kind = d.kind;
     let number = usb4::kind_number(kind);

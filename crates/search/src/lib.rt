@@ -3,6 +3,7 @@ ghost use Prim.Native.Nat.{_/_, _<_};
 ghost use mathlib.Core.Path.{_≡_};
 ghost use Rattle.adapter.specs.Adapter.{factsRow, maxHopOutcome};
 ghost use Rattle.state.specs.State.{speedOutcome};
+ghost use Rattle.search.specs.Ahead.{HopAhead};
 ghost use Rattle.tables.specs.Packed.{typeBy, stateBy, speedBy, numberBy, adapterWord};
 ghost use Rattle.tables.specs.Found.{Boundary, EntrySought, AdapterSought};
 ghost use Rattle.refusal.specs.declared.Site.{Site};
@@ -14,6 +15,12 @@ use tables::EntryAt;
 use usb4::AdapterType;
 use usb4::Speed;
 use usb4::State;
+
+// A HopID, or there is none.
+pub enum HopAt {
+    Hop(u16),
+    None,
+}
 
 // Where the words that are not below a bound begin, in words that are in order.
 fn seek(table: &[u64], bound: u64) -> usize
@@ -52,6 +59,25 @@ pub fn find_entry(entries: &[u64], place: usize, adapter: u8, hop: u16) -> Entry
         out_adapter: (w / 65536 % 256) as u8,
         out_hop: (w % 65536) as u16,
     }
+}
+
+// The next HopID of an adapter of a device, from `hop` on, that has an entry.
+pub fn next_hop(entries: &[u64], place: usize, adapter: u8, hop: u16) -> HopAt
+    ensures { λ r. ⌜ HopAhead (now (entries .entry)) place adapter hop r ⌝ }
+{
+    if 65535 < place {
+        return HopAt::None;
+    }
+    let owner = (place as u64) * 256 + (adapter as u64);
+    let i = seek(entries, (owner * 65536 + (hop as u64)) * 16777216);
+    if entries.len() <= i {
+        return HopAt::None;
+    }
+    let w = entries[i];
+    if w / 1099511627776 != owner {
+        return HopAt::None;
+    }
+    HopAt::Hop((w / 16777216 % 65536) as u16)
 }
 
 // A kind by its number.

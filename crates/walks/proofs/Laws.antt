@@ -35,10 +35,10 @@ isValue : {A : Type 0} → Outcome A → Bool
 isValue (refused n vs) = false
 isValue (value a) = true
 
-nothing : {A B : Type 0} → A → Outcome B
+unfoldable pub nothing : {A B : Type 0} → A → Outcome B
 nothing a = refused 0 []
 
-refused-value : {A : Type 0} {n : ℕ} {vs : List ℕ} {a : A} → refused n vs ≡ value a → ⊥
+pub refused-value : {A : Type 0} {n : ℕ} {vs : List ℕ} {a : A} → refused n vs ≡ value a → ⊥
 unfolding isValue
 refused-value e = true≢false (sym (ap isValue e))
 

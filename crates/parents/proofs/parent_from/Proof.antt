@@ -1,14 +1,13 @@
 use lib.Seq.{length-take-le}
-use mathlib.Core.Path.{sym, ap, _∙_, refl}
-use mathlib.Core.Option.{none, some}
+use mathlib.Core.Path.{sym, ap, _∙_}
+use mathlib.Core.Option.{none}
 use Rattle.tables.specs.Found.{deviceFound}
 use Rattle.refusal.specs.Outcome.{bind}
 use Rattle.load.specs.Answers.{present, refusedBy}
-use Rattle.parents.specs.Work.{rowsIn}
 use Rattle.parents.specs.Parents.{parentOf, parentAnswer, parentOutcome}
-use Rattle.devices.proofs.Laws.{held, asked, place-fits}
-use Rattle.parents.proofs.Laws.{parent-same}
-use Rattle.load.proofs.Result.{usable, load-refused}
+use Rattle.devices.proofs.Laws.{held, asked}
+use Rattle.parents.proofs.Laws.{parent-asked}
+use Rattle.load.proofs.Result.{load-refused}
 use borrow.Author.Needs.{needs}
 use Rattle.parents.proofs.parent_from.Statement.{statement}
 use Rattle.parents.proofs.parent_from.Tie as tie
@@ -84,9 +83,7 @@ slice-aggregate-parent-of-3 c = sym (length-take-le _ _ (held _ _ _ _ _ (c .befo
 
 -- src/lib.rt:338:13
 parent-of-requires : tie.Need-parent-of-requires
-unfolding deviceFound
-parent-of-requires c κs = let u = usable _ _ _ _ (c .before .before .before .before .before .before .before .before .before .before .before .before .before .answer2 .given .1) (c .before .before .before .before .before .before .before .before .before .before .before .before .before .before .before .load .ensures .1) in
-    (place-fits _ _ _ _ _ _ u (sym (ap (deviceFound (c .before .before .before .before .before .before .before .before .before .before .before .before .before .before .before .before .before .before .args .place)) (c .before .before .before .before .before .d .given .1)) ∙ c .before .before .before .before .before .before .before .find-device .ensures), u .adapterOrder)
+parent-of-requires c κs = search needs
 
 -- src/lib.rt:316:1
 returns-2 : tie.Need-returns-2
@@ -95,9 +92,8 @@ returns-2 c = load-refused _ _ _ (c .before .before .before .load .ensures .0) _
 
 -- src/lib.rt:316:1
 returns-3 : tie.Need-returns-3
-unfolding parentAnswer present bind deviceFound rowsIn
-returns-3 c = c .parent-of .ensures ∙ parent-same _ _ _ _ refl refl
-    ∙ asked _ _ _ _ _ _ _ (λ x d. parentOf x (c .before .before .before .before .before .before .before .before .before .before .before .before .before .before .before .before .before .before .before .args .place) d) (some _) (c .before .before .before .before .before .before .before .before .before .before .before .before .before .before .before .before .load .ensures .0) (c .before .before .before .before .before .before .before .before .before .before .before .before .before .before .answer2 .given .1) (sym (ap (deviceFound _) (c .before .before .before .before .before .before .d .given .1)) ∙ c .before .before .before .before .before .before .before .before .find-device .ensures)
+unfolding deviceFound
+returns-3 c = parent-asked _ _ _ _ _ _ _ _ _ (c .before .before .before .before .before .before .before .before .before .before .before .before .before .before .before .before .load .ensures .0) (c .before .before .before .before .before .before .before .before .before .before .before .before .before .before .answer2 .given .1) (c .before .before .before .before .before .before .before .before .before .before .before .before .before .before .before .before .load .ensures .1) (sym (ap (deviceFound _) (c .before .before .before .before .before .before .d .given .1)) ∙ c .before .before .before .before .before .before .before .before .find-device .ensures) (c .parent-of .ensures)
 
 pub parent-from-spec : {M : Type 1} → statement M
 parent-from-spec =

@@ -18,7 +18,7 @@ router-parent-requires c κs = search needs
 -- src/lib.rt:307:9
 returns : tie.Need-returns
 unfolding deviceRow
-returns c = c .router-parent .ensures ∙ of-router _ _ _ _ (c .before .before .kind-number .ensures) (c .before .if1 .taken)
+returns c = record { is = λ k l es. c .router-parent .ensures .is k l es ∙ of-router _ _ _ _ (c .before .before .kind-number .ensures) (c .before .if1 .taken) }
 
 -- src/lib.rt:310:9
 xdomain-parent-requires : tie.Need-xdomain-parent-requires
@@ -27,12 +27,12 @@ xdomain-parent-requires c κs = search needs
 -- src/lib.rt:310:9
 returns-2 : tie.Need-returns-2
 unfolding deviceRow
-returns-2 c = c .xdomain-parent .ensures (now (c .before .before .before .before .before .before .before .args .adapters)) ∙ of-xdomain _ _ _ _ (c .before .before .before .kind-number .ensures) (c .before .if2 .taken)
+returns-2 c = record { is = λ k l es. c .xdomain-parent .ensures (now (c .before .before .before .before .before .before .before .args .adapters)) es ∙ of-xdomain _ _ _ _ (c .before .before .before .kind-number .ensures) (c .before .if2 .taken) }
 
 -- src/lib.rt:294:1
 returns-3 : tie.Need-returns-3
 unfolding deviceRow parentOutcome
-returns-3 c = of-other _ _ _ _ (c .before .before .kind-number .ensures) (c .before .if1 .left) (c .if2 .left)
+returns-3 c = record { is = λ k l es. of-other _ _ _ _ (c .before .before .kind-number .ensures) (c .before .if1 .left) (c .if2 .left) }
 
 pub parent-of-spec : {M : Type 1} → statement M
 parent-of-spec =

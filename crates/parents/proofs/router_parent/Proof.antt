@@ -6,7 +6,7 @@ use Rattle.refusal.specs.Refusal.{refusalOf}
 use Rattle.refusal.specs.Outcome.{bind}
 use Rattle.adapter.specs.Adapter.{adapterSite}
 use Rattle.load.specs.Answers.{refusedBy}
-use Rattle.parents.specs.Work.{rowsIn}
+use Rattle.fabric.specs.Tables.{rowsWith}
 use Rattle.fabric.specs.Links.{routeOutcome}
 use Rattle.parents.specs.Parents.{parentOutcome, routerAt, parentBy, upstreamIn}
 use Rattle.parents.proofs.Laws.{by-upstream, by-adapter, by-route}
@@ -41,8 +41,8 @@ enum-told-3 c = search needs
 
 -- src/lib.rt:269:17
 returns : tie.Need-returns
-unfolding parentOutcome parentBy adapterFound
-returns c = by-adapter _ _ _ _ _ _ none (c .before .before .before .before .upstream .given .1) (sym (ap (adapterFound _) (c .enum-told3 .given .1)) ∙ c .before .before .find-adapter .ensures .first (c .before .before .before .before .before .before .before .before .before .pre .0) (c .before .before .before .before .before .before .before .before .before .pre .1))
+unfolding rowsWith parentOutcome parentBy adapterFound
+returns c = record { is = λ k l es. by-adapter _ _ _ _ none (c .before .before .before .before .upstream .given .1) (sym (ap (adapterFound _) (c .enum-told3 .given .1)) ∙ c .before .before .find-adapter .ensures .first l (k .adapters)) }
 
 -- src/lib.rt:271:19
 upstream-route-of-requires : tie.Need-upstream-route-of-requires
@@ -67,27 +67,27 @@ router-at-requires c κs = search needs
 -- src/lib.rt:250:1
 returns-2 : tie.Need-returns-2
 unfolding parentOutcome upstreamOutcome bind upstreamIn parentBy
-returns-2 c = by-upstream _ _ _ _ _ _ (c .enum-told .given .1)
+returns-2 c = record { is = λ k l es. by-upstream _ _ _ _ (c .enum-told .given .1) }
 
 -- src/lib.rt:250:1
 returns-3 : tie.Need-returns-3
 unfolding parentOutcome upstreamOutcome refusedBy refusalOf bind adapterSite
-returns-3 c = by-upstream _ _ _ _ _ _ (c .enum-told2 .given .1)
+returns-3 c = record { is = λ k l es. by-upstream _ _ _ _ (c .enum-told2 .given .1) }
 
 -- src/lib.rt:250:1
 returns-4 : tie.Need-returns-4
-unfolding parentOutcome routeOutcome adapterFound
-returns-4 c = sym (refused-bind _ _) ∙ by-route _ _ _ _ _ _ _ _ (c .before .before .before .before .before .before .before .before .before .upstream .given .1) (sym (ap (adapterFound _) (c .before .before .before .before .before .f .given .1)) ∙ c .before .before .before .before .before .before .before .find-adapter .ensures .first (c .before .before .before .before .before .before .before .before .before .before .before .before .before .before .pre .0) (c .before .before .before .before .before .before .before .before .before .before .before .before .before .before .pre .1)) (sym (ap routeOutcome (c .before .refusal .given .1)) ∙ c .before .before .before .upstream-route-of .ensures)
+unfolding rowsWith parentOutcome routeOutcome adapterFound
+returns-4 c = record { is = λ k l es. sym (refused-bind _ _) ∙ by-route _ _ _ _ _ _ (c .before .before .before .before .before .before .before .before .before .upstream .given .1) (sym (ap (adapterFound _) (c .before .before .before .before .before .f .given .1)) ∙ c .before .before .before .before .before .before .before .find-adapter .ensures .first l (k .adapters)) (sym (ap routeOutcome (c .before .refusal .given .1)) ∙ c .before .before .before .upstream-route-of .ensures) }
 
 -- src/lib.rt:250:1
 returns-5 : tie.Need-returns-5
-unfolding parentOutcome routeOutcome adapterFound bind routerAt
-returns-5 c = by-route _ _ _ _ _ _ _ _ (c .before .before .before .before .before .before .before .before .upstream .given .1) (sym (ap (adapterFound _) (c .before .before .before .before .f .given .1)) ∙ c .before .before .before .before .before .before .find-adapter .ensures .first (c .before .before .before .before .before .before .before .before .before .before .before .before .before .pre .0) (c .before .before .before .before .before .before .before .before .before .before .before .before .before .pre .1)) (sym (ap routeOutcome (c .enum-told4 .given .1)) ∙ c .before .before .upstream-route-of .ensures)
+unfolding rowsWith parentOutcome routeOutcome adapterFound bind routerAt
+returns-5 c = record { is = λ k l es. by-route _ _ _ _ _ _ (c .before .before .before .before .before .before .before .before .upstream .given .1) (sym (ap (adapterFound _) (c .before .before .before .before .f .given .1)) ∙ c .before .before .before .before .before .before .find-adapter .ensures .first l (k .adapters)) (sym (ap routeOutcome (c .enum-told4 .given .1)) ∙ c .before .before .upstream-route-of .ensures) }
 
 -- src/lib.rt:250:1
 returns-6 : tie.Need-returns-6
-unfolding routeOutcome rowsIn deviceRow adapterFound bind routerAt
-returns-6 c = c .router-at .ensures ∙ by-route (now (c .before .before .before .before .before .before .before .before .before .before .before .before .before .before .before .args .adapters)) _ _ _ _ _ _ _ (c .before .before .before .before .before .before .before .before .before .before .upstream .given .1) (sym (ap (adapterFound _) (c .before .before .before .before .before .before .f .given .1)) ∙ c .before .before .before .before .before .before .before .before .find-adapter .ensures .first (c .before .before .before .before .before .before .before .before .before .before .before .before .before .before .before .pre .0) (c .before .before .before .before .before .before .before .before .before .before .before .before .before .before .before .pre .1)) (sym (ap routeOutcome (c .before .before .r .given .1)) ∙ c .before .before .before .before .upstream-route-of .ensures)
+unfolding rowsWith routeOutcome deviceRow adapterFound bind routerAt
+returns-6 c = record { is = λ k l es. c .router-at .ensures ∙ by-route (rowsWith es (now (c .before .before .before .before .before .before .before .before .before .before .before .before .before .before .before .args .adapters)) _ _) _ _ _ _ _ (c .before .before .before .before .before .before .before .before .before .before .upstream .given .1) (sym (ap (adapterFound _) (c .before .before .before .before .before .before .f .given .1)) ∙ c .before .before .before .before .before .before .before .before .find-adapter .ensures .first l (k .adapters)) (sym (ap routeOutcome (c .before .before .r .given .1)) ∙ c .before .before .before .before .upstream-route-of .ensures) }
 
 pub router-parent-spec : {M : Type 1} → statement M
 router-parent-spec =

@@ -4,7 +4,7 @@ use Rattle.refusal.specs.Refusal.{refusalOf}
 use Rattle.refusal.specs.Outcome.{bind}
 use Rattle.adapter.specs.Adapter.{adapterSite}
 use Rattle.load.specs.Answers.{refusedBy}
-use Rattle.parents.specs.Work.{rowsIn}
+use Rattle.fabric.specs.Tables.{rowsWith}
 use Rattle.fabric.specs.Links.{routeOr}
 use Rattle.parents.specs.Parents.{parentOutcome, routerAt}
 use Rattle.parents.proofs.Laws.{xdomain-by}
@@ -27,7 +27,7 @@ enum-told c = search needs
 -- src/lib.rt:285:9
 returns : tie.Need-returns
 unfolding parentOutcome deviceRow refusedBy refusalOf routeOr adapterSite bind
-returns c = λ ad. xdomain-by _ _ _ _ (sym (c .before .before .upstream-route .ensures) ∙ c .enum-told .given .1)
+returns c = λ ad es. xdomain-by _ _ _ _ (sym (c .before .before .upstream-route .ensures) ∙ c .enum-told .given .1)
 
 -- src/lib.rt:290:5
 router-at-requires : tie.Need-router-at-requires
@@ -35,8 +35,8 @@ router-at-requires c κs = search needs
 
 -- src/lib.rt:281:1
 returns-2 : tie.Need-returns-2
-unfolding rowsIn deviceRow routeOr bind routerAt
-returns-2 c = λ ad. c .router-at .ensures ∙ xdomain-by (rowsIn ad _ _) _ _ _ (sym (c .before .before .before .before .upstream-route .ensures) ∙ c .before .before .r .given .1)
+unfolding rowsWith deviceRow routeOr bind routerAt
+returns-2 c = λ ad es. c .router-at .ensures ∙ xdomain-by (rowsWith es ad _ _) _ _ _ (sym (c .before .before .before .before .upstream-route .ensures) ∙ c .before .before .r .given .1)
 
 pub xdomain-parent-spec : {M : Type 1} → statement M
 xdomain-parent-spec =
