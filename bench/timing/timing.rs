@@ -1,5 +1,7 @@
-//! Times loading: the proved `acceptance::accepted` on survey words, and the Rust on the same devices as dumps.
+//! Times loading: the proved `acceptance::accepted` on survey words, and the Rust on the same devices as dumps; then walks (walking.rs).
 //! bench/run builds this as a second program of the oracle's crate. ../README.md says what the columns are.
+
+mod walking;
 
 use std::fmt::Write as _;
 use std::fs;
@@ -53,10 +55,10 @@ fn capability(at: u32, cap: u32, vs: u32, count: u32) -> Vec<Register> {
         .collect()
 }
 
-/// ROUTER_CS_0 and on; ROUTER_CS_1 has Upstream Adapter 1 and Max Adapter.
-fn router(count: u32, adapters: Vec<Adapter>) -> Router {
+/// ROUTER_CS_0 and on; ROUTER_CS_1 has Upstream Adapter and Max Adapter.
+fn router(count: u32, upstream: u32, adapters: Vec<Adapter>) -> Router {
     let mut registers = capability(0, 0, 0, count);
-    registers[1].value = (adapters.len() as u32) << 14 | 1 << 8;
+    registers[1].value = (adapters.len() as u32) << 14 | upstream << 8;
     Router { registers, adapters }
 }
 
@@ -77,10 +79,15 @@ fn lane(at: u32) -> Vec<Register> {
     registers
 }
 
+/// The first word of a valid path entry.
+fn leads(hop: u32, out: u32, out_hop: u32) -> Register {
+    Register { offset: 2 * hop, relative: 0, cap: 0, vs: 0, value: 1 << 31 | out << 11 | out_hop }
+}
+
 /// A path entry's first word; a valid one leads to HopID 8 of adapter 2.
 fn path(hop: u32, valid: bool) -> Register {
-    let value = if valid { 1 << 31 | 2 << 11 | 8 } else { 0 };
-    Register { offset: 2 * hop, relative: 0, cap: 0, vs: 0, value }
+    let first = leads(hop, 2, 8);
+    if valid { first } else { Register { value: 0, ..first } }
 }
 
 /// Both words of a path entry, as the kernel prints them.
@@ -101,7 +108,7 @@ fn kernel(words: usize) -> Vec<Router> {
         registers[9].value = 1 << 31;
         Adapter { registers, paths: Paths::Read(entry(8, true).to_vec()) }
     };
-    (0..words / 1024).map(|_| router(26, vec![lane0(), lane1(), pcie(PCIE_UP), pcie(PCIE_DOWN)])).collect()
+    (0..words / 1024).map(|_| router(26, 1, vec![lane0(), lane1(), pcie(PCIE_UP), pcie(PCIE_DOWN)])).collect()
 }
 
 /// (b) Four lanes with long path dumps: first words alone, and all of them valid.
@@ -111,7 +118,7 @@ fn entries(words: usize) -> Vec<Router> {
         registers: [basic(9, LANE, 7 + each), lane(0x10)].concat(),
         paths: Paths::Read((8..8 + each).map(|h| path(h, true)).collect()),
     };
-    vec![router(2, vec![lane(), lane(), lane(), lane()])]
+    vec![router(2, 1, vec![lane(), lane(), lane(), lane()])]
 }
 
 /// (c) Four lanes with vendor capabilities of 64 nameless registers each before the lane capability, and no ADP_CS_5.
@@ -122,7 +129,18 @@ fn nameless(words: usize) -> Vec<Router> {
         registers: [basic(5, LANE, 0), (0..each).map(vendor).collect(), lane(0x10 + each)].concat(),
         paths: Paths::NotRead,
     };
-    vec![router(2, vec![lane(), lane(), lane(), lane()])]
+    vec![router(2, 1, vec![lane(), lane(), lane(), lane()])]
+}
+
+/// Two routers, one below lane 1 of the other: a walk from there, at HopID 8, goes to and fro for so many hops, and ends at a PCIe adapter.
+fn steps(hops: u32) -> Vec<Router> {
+    let lane = |side: u32| {
+        let on = |i: u32| if i + 1 == hops { (2, 8) } else { (1, 8 + i.div_ceil(2)) };
+        let dump = (0..hops).filter(|i| i % 2 == side).map(|i| leads(8 + i / 2, on(i).0, on(i).1)).collect();
+        Adapter { registers: basic(3, LANE, 0), paths: Paths::Read(dump) }
+    };
+    let pcie = |kind| Adapter { registers: basic(3, kind, 0), paths: Paths::NotRead };
+    vec![router(2, 2, vec![lane(0), pcie(PCIE_DOWN)]), router(2, 1, vec![lane(1), pcie(PCIE_UP)])]
 }
 
 /// The survey's words: every device is a USB4 router whose registers were read.
@@ -214,18 +232,28 @@ fn device(name: &str, place: usize) -> Device {
     )
 }
 
-/// The Rust's own loading; the answer as `accepted_under_ours` gives it.
+/// The Rust's own loading of one device.
+fn load_device(name: &str, place: usize, d: &Router) -> Device {
+    let mut device = device(name, place);
+    device.read_registers().unwrap();
+    device.read_adapters().unwrap();
+    for (i, a) in d.adapters.iter().enumerate() {
+        if !matches!(a.paths, Paths::NotRead) {
+            device.adapter_mut(i as u8 + 1).unwrap().read_paths().unwrap();
+        }
+    }
+    device
+}
+
+fn loaded(name: &str, routers: &[Router]) -> Vec<Device> {
+    routers.iter().enumerate().map(|(place, d)| load_device(name, place, d)).collect()
+}
+
+/// The same, one after another; the answer as `accepted_under_ours` gives it.
 fn load(name: &str, routers: &[Router]) -> usize {
     let mut found = 0;
     for (place, d) in routers.iter().enumerate() {
-        let mut device = device(name, place);
-        device.read_registers().unwrap();
-        device.read_adapters().unwrap();
-        for (i, a) in d.adapters.iter().enumerate() {
-            if !matches!(a.paths, Paths::NotRead) {
-                device.adapter_mut(i as u8 + 1).unwrap().read_paths().unwrap();
-            }
-        }
+        let device = load_device(name, place, d);
         let lists = device.adapters().unwrap().iter().map(|a| a.paths().map_or(0, |p| p.len()));
         found += 65536 + lists.sum::<usize>();
         black_box(&device);
@@ -296,4 +324,5 @@ fn main() {
             before = Some(ours);
         }
     }
+    walking::run(rounds);
 }
