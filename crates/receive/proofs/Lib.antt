@@ -1,0 +1,4 @@
+pub mod Lanes
+pub mod Hops
+pub mod Looking
+pub mod Search

@@ -1,0 +1,56 @@
+-- For the contracts of private functions only. No promise to a caller rests on these. Assumes nothing.
+use Prim.Native.Nat.{ℕ, _+_, _-_, _≤_, _<_}
+use mathlib.Core.Path.{_≡_}
+use mathlib.Core.List.{List}
+use mathlib.Core.Option.{Option, none as absent, some}
+use lib.ListN.{length}
+use Rattle.refusal.specs.Outcome.{Outcome, value, bind}
+use Rattle.tables.specs.Rows.{EntryRow, DeviceRow, Rows, deviceIn}
+use Rattle.load.specs.Answers.{refusedBy}
+use Rattle.fabric.specs.Tables.{rowsWith, InOrder}
+use Rattle.walk.specs.Tables.{rowsOf, Tabled}
+use Rattle.receive.specs.Receive.{Lane, Lane.lane, Lane.passed, Lane.dropped, laneOf, Receive, Receive.nothing, amongHops, orNext}
+use Rattle.receive.specs.Tables.{saidOf, receivedOutcome, hopsBy}
+use Rattle.receive.specs.declared.LaneFound.{LaneFound}
+use Rattle.receive.specs.declared.LaneFound.the-variants as found
+use Rattle.receive.specs.declared.Step.{Step}
+use Rattle.receive.specs.declared.Step.the-variants as step
+
+unfoldable pub laneOutcome : LaneFound → Outcome Lane
+laneOutcome (found.At q n lo hi) = value (lane q n lo hi)
+laneOutcome found.Passed = value passed
+laneOutcome found.Dropped = value dropped
+laneOutcome (found.Refused r) = refusedBy r
+
+-- in tables in order it is what f says of their rows; in any others it is free
+pub record LaneIs (ad ro ma : List ℕ) (f : Rows → Outcome Lane) (r : LaneFound) : Type 0 where
+  pub is : InOrder ad ro → (es : List EntryRow) → laneOutcome r ≡ f (rowsWith es ad ro ma)
+
+-- of the device at place p, if there is one
+unfoldable pub laneBy : Rows → ℕ → Option DeviceRow → Outcome Lane
+laneBy x p absent = value passed
+laneBy x p (some d) = laneOf x p d
+
+unfoldable pub laneAt : Rows → ℕ → Outcome Lane
+laneAt x p = laneBy x p (deviceIn (x .devices) p)
+
+-- HopIDs h to hi of adapter n of the router at place q
+unfoldable pub upTo : Rows → ℕ → ℕ → ℕ → ℕ → ℕ → Outcome Receive
+upTo x ring q n h hi = amongHops x ring q n h (hi + 1 - h)
+
+-- the HopIDs before the one to look at next give nothing; none is left to give anything; or what is found is the answer, whatever comes after
+unfoldable pub Stepped : Rows → ℕ → ℕ → ℕ → ℕ → ℕ → Step → Type 0
+Stepped x ring q n h hi (step.On k) = upTo x ring q n h hi ≡ upTo x ring q n k hi
+Stepped x ring q n h hi step.Over = upTo x ring q n h hi ≡ value nothing
+Stepped x ring q n h hi (step.Ends r) = (after : Outcome Receive) → receivedOutcome ring r ≡ bind (bind (upTo x ring q n h hi) (orNext after)) (λ v. value (saidOf v))
+
+unfoldable pub endHops : Step → ℕ
+endHops (step.On k) = 0
+endHops step.Over = 0
+endHops (step.Ends r) = hopsBy r
+
+-- so it is in tables in order; in any others the HopID to look at next is further on all the same
+pub record Looked (en ad ro ma : List ℕ) (ring q n h hi : ℕ) (r : Step) : Type 0 where
+  pub stepped : Tabled en ad ro → q < 65536 → Stepped (rowsOf en ad ro ma) ring q n h hi r
+  pub further : (k : ℕ) → r ≡ step.On k → (h < k) × (k ≤ 65536)
+  pub few : endHops r ≤ length en

@@ -1,0 +1,224 @@
+// The receive path of a ring (module 7, `discover_one_dma`), sought on the tables that a survey is loaded to.
+ghost use Prim.Native.Nat.{ℕ};
+ghost use mathlib.Core.Path.{_≡_};
+ghost use Rattle.adapter.specs.Adapter.{factsRow};
+ghost use Rattle.tables.specs.Rows.{deviceIn};
+ghost use Rattle.tables.specs.Found.{deviceRow};
+ghost use Rattle.receive.specs.Receive.{hopsOf, underRouter};
+ghost use Rattle.receive.specs.Tables.{Receives};
+ghost use Rattle.receive.specs.Work.{laneOutcome, LaneIs, laneAt, Looked};
+use adapter::Facts;
+use adapter::HopFound;
+use adapter::MaxHop;
+use load::Refusal;
+use parents::ParentAnswer;
+use refusal::Fault;
+use refusal::Site;
+use route::AdapterFound;
+use search::HopAt;
+use tables::DeviceFacts;
+use tables::DeviceFound;
+use walk::Walked;
+
+// A path by its start, its number of hops, and the place and adapter by which it leaves; none; the ring's tunnel is dropped; or what refuses it.
+pub enum Received {
+    Path {
+        place: usize,
+        adapter: u8,
+        hop: u16,
+        hops: usize,
+        out_place: usize,
+        out_adapter: u8,
+    },
+    Nothing,
+    Lost,
+    Refused(Refusal),
+}
+
+// HopIDs of an adapter at which a device's paths come in; a device that is passed over; the ring's tunnel is dropped; or what refuses it.
+pub enum LaneFound {
+    At {
+        place: usize,
+        adapter: u8,
+        least: u32,
+        most: u32,
+    },
+    Passed,
+    Dropped,
+    Refused(Refusal),
+}
+
+// The HopID to look at next; none is left; or what the search comes to.
+pub enum Step {
+    On(u32),
+    Over,
+    Ends(Received),
+}
+
+// The HopIDs of an adapter of the router at a place, or 6.
+fn hops_of(place: usize, f: Facts) -> LaneFound
+    ensures { λ r. ⌜ laneOutcome r ≡ hopsOf place (factsRow place f) ⌝ }
+{
+    let kind = f.kind;
+    let HopFound::Hop(least) = paths::min_hop(kind) else {
+        return LaneFound::Dropped;
+    };
+    let max_hop = f.max_hop;
+    match max_hop {
+        MaxHop::None => LaneFound::Dropped,
+        MaxHop::NoField => LaneFound::Refused(Refusal::Fault(Fault::NoField(Site {
+            place,
+            adapter: f.number,
+        }))),
+        MaxHop::Hop(most) => LaneFound::At {
+            place,
+            adapter: f.number,
+            least,
+            most,
+        },
+    }
+}
+
+// Of the router at place q, the adapter beneath which a device hangs.
+fn beneath(adapters: &[u64], routes: &[u64], marks: &[u64], d: DeviceFacts, q: usize) -> LaneFound
+    ensures { λ r. ⌜ ((p : ℕ) → LaneIs (now (adapters .entry)) (now (routes .entry)) (now (marks .entry)) (λ x. underRouter x (deviceRow p d) q (deviceIn (x .devices) q)) r) ⌝ }
+{
+    let DeviceFound::Device(e) = routers::find_device(routes, marks, q) else {
+        return LaneFound::Passed;
+    };
+    let AdapterFound::Adapter(n) = route::downstream_adapter(e.domain, e.route, d.domain, d.route)
+    else {
+        return LaneFound::Passed;
+    };
+    let tables::AdapterFound::Adapter(f) = search::find_adapter(adapters, q, n) else {
+        return LaneFound::Dropped;
+    };
+    hops_of(q, f)
+}
+
+// Where the receive paths of the device at a place come in: an xdomain's, at its parent.
+fn lane_of(adapters: &[u64], routes: &[u64], marks: &[u64], place: usize) -> LaneFound
+    ensures { λ r. ⌜ LaneIs (now (adapters .entry)) (now (routes .entry)) (now (marks .entry)) (λ x. laneAt x place) r ⌝ }
+{
+    let DeviceFound::Device(d) = routers::find_device(routes, marks, place) else {
+        return LaneFound::Passed;
+    };
+    let kind = d.kind;
+    if usb4::kind_number(kind) != 2 {
+        return LaneFound::Passed;
+    }
+    match parents::parent_of(routes, marks, adapters, place, d) {
+        ParentAnswer::Refused(refusal) => LaneFound::Refused(refusal),
+        ParentAnswer::None => LaneFound::Passed,
+        ParentAnswer::Place(q) => beneath(adapters, routes, marks, d, q),
+    }
+}
+
+// The next HopID from `hop` to `most` that has an entry: its path, if its last hop leaves by the ring.
+fn look_at(
+    entries: &[u64],
+    adapters: &[u64],
+    routes: &[u64],
+    marks: &[u64],
+    place: usize,
+    adapter: u8,
+    hop: u32,
+    most: u32,
+    ring: u16,
+) -> Step
+    ensures { λ r. ⌜ Looked (now (entries .entry)) (now (adapters .entry)) (now (routes .entry)) (now (marks .entry)) ring place adapter hop most r ⌝ }
+{
+    if 65535 < hop {
+        return Step::Over;
+    }
+    let HopAt::Hop(h) = search::next_hop(entries, place, adapter, hop as u16) else {
+        return Step::Over;
+    };
+    let at = h as u32;
+    if most < at {
+        return Step::Over;
+    }
+    match walk::tally(entries, adapters, routes, marks, place, adapter, h) {
+        Walked::Refused(refusal) => Step::Ends(Received::Refused(refusal)),
+        Walked::Absent => Step::On(at + 1),
+        Walked::Path {
+            hops,
+            place: out_place,
+            adapter: out_adapter,
+            hop: last,
+        } => {
+            if last != ring {
+                return Step::On(at + 1);
+            }
+            Step::Ends(Received::Path {
+                place,
+                adapter,
+                hop: h,
+                hops,
+                out_place,
+                out_adapter,
+            })
+        }
+    }
+}
+
+// The first path that leaves by the ring, over the xdomains and the HopIDs of the adapters at which their paths come in.
+pub fn receive(
+    entries: &[u64],
+    adapters: &[u64],
+    routes: &[u64],
+    marks: &[u64],
+    ring: u16,
+) -> Received
+    ensures { λ r. ⌜ Receives (now (entries .entry)) (now (adapters .entry)) (now (routes .entry)) (now (marks .entry)) ring r ⌝ }
+{
+    let mut found = Received::Nothing;
+    let mut i: usize = 0;
+    'rx_path: while i < routes.len() {
+        match lane_of(adapters, routes, marks, i) {
+            LaneFound::Refused(refusal) => {
+                return Received::Refused(refusal);
+            }
+            LaneFound::Dropped => {
+                return Received::Lost;
+            }
+            LaneFound::Passed => {
+                i += 1;
+            }
+            LaneFound::At {
+                place,
+                adapter,
+                least,
+                most,
+            } => {
+                let mut hop = least;
+                while hop <= most {
+                    match look_at(
+                        entries,
+                        adapters,
+                        routes,
+                        marks,
+                        place,
+                        adapter,
+                        hop,
+                        most,
+                        ring,
+                    ) {
+                        Step::On(next) => {
+                            hop = next;
+                        }
+                        Step::Over => {
+                            break;
+                        }
+                        Step::Ends(r) => {
+                            found = r;
+                            break 'rx_path;
+                        }
+                    }
+                }
+                i += 1;
+            }
+        }
+    }
+    found
+}
