@@ -1,0 +1,4 @@
+pub mod Going
+pub mod Planning
+pub mod Ring
+pub mod Example

@@ -1,0 +1,4 @@
+pub mod Tunnels
+pub mod Words
+pub mod Plans
+pub mod Work
