@@ -1,3 +1,4 @@
 pub mod Starred
 pub mod Paths
 pub mod Walks
+pub mod Tunnels

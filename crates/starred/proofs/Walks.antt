@@ -35,13 +35,13 @@ use Rattle.walk.specs.Rule.{settled, walkFrom}
 use Rattle.walks.specs.Calls.{pathAnswer}
 use Rattle.starred.specs.Table.{Holds, walk, ring, apart}
 
-unfoldable ringRows : Rows
+unfoldable pub ringRows : Rows
 ringRows = record { entries = entry 0 1 8 1 8 ∷ entry 0 2 8 1 8 ∷ entry 1 1 8 1 8 ∷ entry 1 2 8 1 8 ∷ []; adapters = exampleRows .adapters; devices = exampleRows .devices }
 
 unfoldable apartRows : Rows
 apartRows = record { entries = exampleRows .entries; adapters = exampleRows .adapters; devices = routerRow 1 3 ∷ routerRow 0x010001 1 ∷ [] }
 
-ring-loads : bind (readSurvey ring) (λ devices. loadFrom ours 0 devices) ≡ value ringRows
+pub ring-loads : bind (readSurvey ring) (λ devices. loadFrom ours 0 devices) ≡ value ringRows
 unfolding ring ringRows entry plainRow routerRow exampleRows bind refusalOf at bitsOf bytesOf typeOf laneStateOf deviceKindOf registerOf keep is isNone kindFits capFits vsFits fitsNaming only naming lower alike fieldIs findField oneBit findFlag valueIn isSet flagIn bitsNamed plain capped ours isLong sizeOf groupsOf goodDevice goodAdapter goodRegister afterDevice afterAdapter mayStand afterRegister stepOf stepBy sizeBy onStep firstBad checkOf registerIn withRegister withAdapter withDevice withGroup gather devicesOf readSurvey named orElse havingName havingRegister byName sited wantedField wantedFlag byOffset bothSet enabledIf byFlag byFlags laneState ofKind stateOf hasSpeed speedIn linkSpeed thirdValue kindOf registersOf indicesFrom lastOf between findCap found isLane isLane0 lane0Of lane1Of minHop narrow maxHopIn maxHop parseState adapterSite fewRegisters rowOf decodeOf entryIn entryOf withEntry entriesFrom entriesBy entriesOf joined itself andThen owned ownRows loadAdapter loadAdapters routerCs1 upstreamIn deviceRow deviceRows numbered fitting fits noRegisters loadDevice loadFrom
 ring-loads = refl
 

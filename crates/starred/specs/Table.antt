@@ -13,6 +13,8 @@ use Rattle.description.specs.Rules.{readDescriptions}
 use Rattle.metadata.specs.Ours.{ours}
 use Rattle.tables.specs.Rows.{EntryRow}
 use Rattle.walks.specs.Calls.{pathAnswer}
+use Rattle.tunnel.specs.Tunnels.{Tunnel}
+use Rattle.discoveries.specs.Calls.{discoverAnswer}
 use Rattle.register.specs.Line.{lineAnswer, registerOf}
 use Rattle.register.specs.declared.Register.{Register}
 
@@ -27,6 +29,8 @@ pub data Row : Type 0 where
   parent : ℕ → ℕ → ℕ → Row
   -- survey words; the place, adapter and HopID from which a walk starts; what the call for it answers under words that are our descriptions
   walk : List ℕ → ℕ → ℕ → ℕ → Outcome (Option (List EntryRow)) → Row
+  -- survey words; the place and adapter whose tunnels are asked for; what that call answers under words that are our descriptions
+  tunnels : List ℕ → ℕ → ℕ → Outcome (Option (List Tunnel)) → Row
 
 -- what a row says
 unfoldable pub Holds : Row → Type 0
@@ -35,6 +39,7 @@ Holds (field word low high number) = bitsOf word low high ≡ number
 Holds (depth route d) = depthOf route ≡ d
 Holds (parent route up d) = (upstreamRoute route ≡ Route up) × (depthOf up ≡ d)
 Holds (walk words p a h end) = (t : List ℕ) → readDescriptions t ≡ value ours → pathAnswer t words (record { place = p; adapter = a; hopId = h }) ≡ end
+Holds (tunnels words p a end) = (t : List ℕ) → readDescriptions t ≡ value ours → discoverAnswer t words p a ≡ end
 
 unfoldable pub All : List Row → Type 0
 All [] = Unit {0}
@@ -76,6 +81,15 @@ apart =
     ∷ 1048834 ∷ 1342242832 ∷ 0 ∷ 0 ∷ 2147485704
     ∷ []
 
+-- a host router with one adapter, a HostInterface whose ADP_CS_5 is 0
+unfoldable pub host : List ℕ
+host =
+    822083586 ∷ 0 ∷ 0 ∷ 0 ∷ 1342177281 ∷ 65536 ∷ 0 ∷ 16640
+    ∷ 1073742081 ∷ 1342177280 ∷ 0 ∷ 0 ∷ 0 ∷ 1342177281 ∷ 65536 ∷ 0
+    ∷ 0 ∷ 1342177282 ∷ 131072 ∷ 0 ∷ 2 ∷ 1342177285 ∷ 327680 ∷ 0
+    ∷ 0
+    ∷ []
+
 unfoldable pub starred : List Row
 starred =
     line "0x10 0 junk 1" (some (registerOf 16 0 0 0 1))
@@ -92,4 +106,6 @@ starred =
     ∷ parent 0x010001 1 1
     ∷ walk apart 1 2 8 (value none)
     ∷ walk ring 0 2 8 (refused 13 [])
+    ∷ tunnels ring 0 2 (refused 13 [])
+    ∷ tunnels host 0 1 (value (some []))
     ∷ []

@@ -1,0 +1,5 @@
+pub mod Walks
+pub mod Writing
+pub mod Rings
+pub mod Past
+pub mod Answering

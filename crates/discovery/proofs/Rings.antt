@@ -1,0 +1,201 @@
+-- Laws of the loops over rings: what is left to count or write gives the whole. Assumes nothing.
+use Prim.Native.Nat.{ℕ, suc, _+_, _-_, _*_, _≤_, _<_}
+use mathlib.Core.Path.{_≡_, refl, sym, ap, _∙_}
+use mathlib.Core.List.{List, [], _∷_, _++_, append-assoc, append-nil, Option·toList}
+use mathlib.Core.Option.{Option, none, some}
+use native.Mathlib.Omega.{arith}
+use lib.ListN.{length, take, length-append}
+use lib.Seq.{length-take-le, take-all}
+use Rattle.refusal.specs.Outcome.{Outcome, refused, value, bind}
+use Rattle.tables.specs.Rows.{Rows}
+use Rattle.load.specs.Answers.{refusedBy}
+use Rattle.load.specs.declared.Refusal.{Refusal}
+use Rattle.load.proofs.Result.{refused-bind}
+use Rattle.walk.specs.Tables.{rowsOf, Tabled}
+use Rattle.path.specs.Put.{Sized}
+use Rattle.path.proofs.Writing.{refused-as}
+use Rattle.tunnel.specs.Tunnels.{Tunnel, oneDma, rings}
+use Rattle.tunnel.specs.Words.{tunnelWords, tunnelsWords}
+use Rattle.tunnel.specs.Plans.{Plan, fromBy, planOf, planIf, plannedOutcome, wordsBy, Plans}
+use Rattle.tunnel.specs.declared.Planned.{Planned}
+use Rattle.tunnel.specs.declared.Planned.the-variants as planned
+use Rattle.discovery.specs.Work.{tallyOf, tallied, Tallies, RingsPut, Walks, PlanPut}
+use Rattle.discovery.specs.declared.Tally.the-variants as tally
+use Rattle.discovery.proofs.Walks.{one-dma-walks}
+use Rattle.discovery.proofs.Writing.{wrote-front}
+
+-- ---- a plan, by what it is the plan of
+
+abbrev Planning : Planned → Outcome (Option Tunnel) → Type 0
+Planning plan o = plannedOutcome plan ≡ bind o (λ t. value (planIf t))
+
+-- its words are the tunnel's
+pub plan-words : (plan : Planned) (o : Outcome (Option Tunnel)) → Planning plan o → (w : ℕ) → tallyOf plan ≡ tally.Words w → (t : Option Tunnel) × (o ≡ value t) × (w ≡ length (tunnelsWords (Option·toList t))) × (plannedOutcome plan ≡ value (planIf t))
+unfolding plannedOutcome bind planIf planOf tallyOf tunnelsWords Option·toList
+plan-words (planned.Tunnel k c v n a b d) (refused j vs) e w f = absurd (let z : _≡_ {A = ℕ} 0 1 = cc in omega arith)
+plan-words (planned.Tunnel k c v n a b d) (value none) e w f = absurd (let z : _≡_ {A = ℕ} 0 1 = cc in omega arith)
+plan-words (planned.Tunnel k c v n a b d) (value (some t)) e w f =
+    let z : record { type = k; closed = c; words = v; starts = take n (fromBy a ∷ fromBy b ∷ fromBy d ∷ []) } ≡ planOf t = cc in
+    let u : v ≡ length (tunnelWords t) = ap (λ (q : Plan). q .words) z in
+    let y : v ≡ w = cc in
+    (some t, refl, omega (arith, length-append (tunnelWords t) []), e)
+plan-words planned.Absent (refused j vs) e w f = absurd (let z : _≡_ {A = ℕ} 0 1 = cc in omega arith)
+plan-words planned.Absent (value none) e w f = (none, refl, (let y : 0 ≡ w = cc in omega arith), e)
+plan-words planned.Absent (value (some t)) e w f = absurd (let z : _≡_ {A = ℕ} 0 1 = cc in omega arith)
+plan-words (planned.Refused r) o e w f = absurd (let z : _≡_ {A = ℕ} 0 1 = cc in omega arith)
+
+pub plan-refused : (plan : Planned) (o : Outcome (Option Tunnel)) → Planning plan o → (r : Refusal) → tallyOf plan ≡ tally.Refused r → (k : ℕ) × (vs : List ℕ) × (o ≡ refused k vs) × ((A : Type 0) → refusedBy {A = A} r ≡ refused k vs)
+unfolding plannedOutcome bind planIf tallyOf
+plan-refused (planned.Tunnel k c v n a b d) o e r f = absurd (let z : _≡_ {A = ℕ} 0 1 = cc in omega arith)
+plan-refused planned.Absent o e r f = absurd (let z : _≡_ {A = ℕ} 0 1 = cc in omega arith)
+plan-refused (planned.Refused s) (refused k vs) e r f = (k, vs, refl, λ A. ap (refusedBy {A = A}) (let z : r ≡ s = cc in z) ∙ sym (refused-bind s (λ y. refused 0 [])) ∙ ap (λ w. bind w (λ y. refused 0 [])) e)
+plan-refused (planned.Refused s) (value t) e r f = absurd (let w = refused-as (value (planIf t)) s e in let v = w .2 in let z : _≡_ {A = ℕ} 0 1 = cc in omega arith)
+
+pub tally-few : (plan : Planned) (w : ℕ) → tallyOf plan ≡ tally.Words w → wordsBy plan ≤ 1048576 → w ≤ 1048576
+unfolding tallyOf wordsBy
+tally-few (planned.Tunnel k c v n a b d) w f l = let y : v ≡ w = cc in omega arith
+tally-few planned.Absent w f l = let y : 0 ≡ w = cc in omega arith
+tally-few (planned.Refused r) w f l = absurd (let z : _≡_ {A = ℕ} 0 1 = cc in omega arith)
+
+-- ---- rings one by one
+
+pub tunnels-append : (ts us : List Tunnel) → tunnelsWords (ts ++ us) ≡ tunnelsWords ts ++ tunnelsWords us
+unfolding tunnelsWords
+tunnels-append [] us = refl
+tunnels-append (t ∷ ts) us = ap (λ l. tunnelWords t ++ l) (tunnels-append ts us) ∙ sym (append-assoc (tunnelWords t) (tunnelsWords ts) (tunnelsWords us))
+
+-- the words of k rings from h on, and n before them
+unfoldable pub counts : Rows → ℕ → ℕ → ℕ → ℕ → ℕ → Outcome ℕ
+counts x p a h k n = bind (rings x p a h k) (λ ts. value (n + length (tunnelsWords ts)))
+
+counts-step : (x : Rows) (p a h k n : ℕ) (t : Option Tunnel) → oneDma x p a h ≡ value t → counts x p a h (suc k) n ≡ counts x p a (suc h) k (n + length (tunnelsWords (Option·toList t)))
+unfolding counts rings bind
+counts-step x p a h k n t e = ap (λ o. bind (bind o (λ t. bind (rings x p a (suc h) k) (λ ts. value (Option·toList t ++ ts)))) (λ ts. value (n + length (tunnelsWords ts)))) e ∙ go (rings x p a (suc h) k)
+  where
+    go : (o : Outcome (List Tunnel)) → bind (bind o (λ ts. value (Option·toList t ++ ts))) (λ ts. value (n + length (tunnelsWords ts))) ≡ bind o (λ ts. value (n + length (tunnelsWords (Option·toList t)) + length (tunnelsWords ts)))
+    go (refused j vs) = refl
+    go (value ts) = ap value (omega (arith, ap length (tunnels-append (Option·toList t) ts), length-append (tunnelsWords (Option·toList t)) (tunnelsWords ts)))
+
+-- a ring that is refused
+counts-refused : (x : Rows) (p a h k n j : ℕ) (vs : List ℕ) → oneDma x p a h ≡ refused j vs → counts x p a h (suc k) n ≡ refused j vs
+unfolding counts rings bind
+counts-refused x p a h k n j vs e = ap (λ o. bind (bind o (λ t. bind (rings x p a (suc h) k) (λ ts. value (Option·toList t ++ ts)))) (λ ts. value (n + length (tunnelsWords ts)))) e
+
+-- the first of rings that are discovered, and the others
+pub rings-split : (x : Rows) (p a h k : ℕ) (us : List Tunnel) → rings x p a h (suc k) ≡ value us → (t : Option Tunnel) × (vs : List Tunnel) × (oneDma x p a h ≡ value t) × (rings x p a (suc h) k ≡ value vs) × (us ≡ Option·toList t ++ vs)
+unfolding rings bind
+rings-split x p a h k us e = go (oneDma x p a h) (rings x p a (suc h) k) e
+  where
+    go : (o : Outcome (Option Tunnel)) (q : Outcome (List Tunnel)) → bind o (λ t. bind q (λ ts. value (Option·toList t ++ ts))) ≡ value us → (t : Option Tunnel) × (vs : List Tunnel) × (o ≡ value t) × (q ≡ value vs) × (us ≡ Option·toList t ++ vs)
+    go (refused j vs) q f = absurd (let z : _≡_ {A = ℕ} 0 1 = cc in omega arith)
+    go (value t) (refused j vs) f = absurd (let z : _≡_ {A = ℕ} 0 1 = cc in omega arith)
+    go (value t) (value vs) f = (t, vs, refl, refl, cc)
+
+-- ---- the tally
+
+module _ (en ad ro ma : List ℕ) (p a end : ℕ) where
+  pub record Counted (need ring : ℕ) : Type 0 where
+    pub from : 1 ≤ ring
+    pub to : ring ≤ end
+    pub few : need ≤ 1048576 * ring
+    pub rest : Sized en ro → Tabled en ad ro → p < 65536 → bind (rings (rowsOf en ad ro ma) p a 1 (end - 1)) (λ ts. value (length (tunnelsWords ts))) ≡ counts (rowsOf en ad ro ma) p a ring (end - ring) need
+
+  pub counted-start : 1 ≤ end → Counted 0 1
+  unfolding counts bind
+  counted-start l = record { from = omega arith; to = l; few = omega arith; rest = λ z t q. go (rings (rowsOf en ad ro ma) p a 1 (end - 1)) }
+    where
+      go : (o : Outcome (List Tunnel)) → bind o (λ ts. value (length (tunnelsWords ts))) ≡ bind o (λ ts. value (0 + length (tunnelsWords ts)))
+      go (refused j vs) = refl
+      go (value ts) = ap value (omega arith)
+
+  pub counted-end : (need ring : ℕ) → Counted need ring → end ≤ ring → Tallies en ad ro ma p a (end - 1) (tally.Words need)
+  unfolding tallied counts rings bind tunnelsWords
+  counted-end need ring c l = record {
+    counts = λ z t q. sym (c .rest z t q ∙ ap (λ k. counts (rowsOf en ad ro ma) p a ring k need) (let y : end - ring ≡ 0 = omega arith in y) ∙ ap value (let y : need + 0 ≡ need = omega arith in y));
+  }
+
+  module _ (need ring : ℕ) (c : Counted need ring) (more : ring < end) (plan : Planned) (f : Plans en ad ro ma p (λ x. oneDma x p a ring) plan) where
+    left : end - ring ≡ suc (end - (ring + 1))
+    left = omega arith
+
+    pub counted-on : (w : ℕ) → tallyOf plan ≡ tally.Words w → Counted (need + w) (ring + 1)
+    counted-on w e = record {
+      from = omega arith;
+      to = omega arith;
+      few = omega (arith, c .few, tally-few plan w e (f .few));
+      rest = λ z t q.
+          let y = plan-words plan (oneDma (rowsOf en ad ro ma) p a ring) (f .answers z t q) w e in
+          c .rest z t q ∙ ap (λ k. counts (rowsOf en ad ro ma) p a ring k need) left ∙ counts-step (rowsOf en ad ro ma) p a ring (end - (ring + 1)) need (y .0) (y .1)
+          ∙ ap (λ k. counts (rowsOf en ad ro ma) p a k (end - (ring + 1)) (need + length (tunnelsWords (Option·toList (y .0))))) (let v : suc ring ≡ ring + 1 = omega arith in v)
+          ∙ ap (λ k. counts (rowsOf en ad ro ma) p a (ring + 1) (end - (ring + 1)) (need + k)) (sym (y .2));
+    }
+
+    pub counted-refused : (r : Refusal) → tallyOf plan ≡ tally.Refused r → Tallies en ad ro ma p a (end - 1) (tally.Refused r)
+    unfolding tallied
+    counted-refused r e = record {
+      counts = λ z t q.
+          let y = plan-refused plan (oneDma (rowsOf en ad ro ma) p a ring) (f .answers z t q) r e in
+          y .3 ℕ ∙ sym (c .rest z t q ∙ ap (λ k. counts (rowsOf en ad ro ma) p a ring k need) left ∙ counts-refused (rowsOf en ad ro ma) p a ring (end - (ring + 1)) need (y .0) (y .1) (y .2));
+    }
+
+  -- ---- the words
+
+  pub record Putting (out₀ : List ℕ) (at ring : ℕ) (out : List ℕ) : Type 0 where
+    pub from : 1 ≤ ring
+    pub to : ring ≤ end
+    pub within : at ≤ length out
+    pub long : length out ≡ length out₀
+    pub rest : Sized en ro → Tabled en ad ro → p < 65536 → (ts : List Tunnel) → rings (rowsOf en ad ro ma) p a 1 (end - 1) ≡ value ts → length out₀ ≡ length (tunnelsWords ts)
+        → (us : List Tunnel) × (rings (rowsOf en ad ro ma) p a ring (end - ring) ≡ value us) × (take at out ++ tunnelsWords us ≡ tunnelsWords ts)
+
+  pub putting-start : (out : List ℕ) → 1 ≤ end → Putting out 0 1 out
+  putting-start out l = record { from = omega arith; to = l; within = omega arith; long = refl; rest = λ z t q ts e n. (ts, e, refl) }
+
+  module _ (out₀ : List ℕ) (at ring : ℕ) (out : List ℕ) (c : Putting out₀ at ring out) where
+    pub putting-end : end ≤ ring → RingsPut en ad ro ma p a (end - 1) out₀ out
+    unfolding rings tunnelsWords
+    putting-end l = record {
+      long = c .long;
+      words = λ z t q ts e n.
+          let y = c .rest z t q ts e n in
+          let k : value [] ≡ value (y .0) = ap (rings (rowsOf en ad ro ma) p a ring) (let v : 0 ≡ end - ring = omega arith in v) ∙ y .1 in
+          let none-left : [] ≡ y .0 = cc in
+          let whole : take at out ≡ tunnelsWords ts = sym (append-nil (take at out)) ∙ ap (λ us. take at out ++ tunnelsWords us) none-left ∙ y .2 in
+          sym (take-all at out (omega (arith, n, c .long, ap length whole, length-take-le at out (c .within)))) ∙ whole;
+    }
+
+    -- the words of the next ring are put before those that are left
+    module _ (r : ℕ) (out′ : List ℕ) (plan : Planned) (w : PlanPut en ad ro ma plan at out r out′) (z : Sized en ro) (l : Tabled en ad ro) (ts us vs : List Tunnel) (t : Option Tunnel) (n : length out₀ ≡ length (tunnelsWords ts))
+        (whole : take at out ++ tunnelsWords us ≡ tunnelsWords ts) (e : us ≡ Option·toList t ++ vs) (said : plannedOutcome plan ≡ value (planIf t)) (walks : Walks (rowsOf en ad ro ma) t) where
+      split : tunnelsWords us ≡ tunnelsWords (Option·toList t) ++ tunnelsWords vs
+      split = ap tunnelsWords e ∙ tunnels-append (Option·toList t) vs
+
+      room : at + length (tunnelsWords (Option·toList t)) ≤ length out
+      room = omega (arith, n, c .long, ap length whole, length-append (take at out) (tunnelsWords us), length-take-le at out (c .within), ap length split, length-append (tunnelsWords (Option·toList t)) (tunnelsWords vs))
+
+      put-next : take r out′ ++ tunnelsWords vs ≡ tunnelsWords ts
+      put-next =
+          ap (λ l. l ++ tunnelsWords vs) (wrote-front at (tunnelsWords (Option·toList t)) out r out′ room (w .words z l t said walks room))
+          ∙ append-assoc (take at out) (tunnelsWords (Option·toList t)) (tunnelsWords vs) ∙ ap (λ l. take at out ++ l) (sym split) ∙ whole
+
+    pub putting-on : ring < end → (plan : Planned) → Plans en ad ro ma p (λ x. oneDma x p a ring) plan → (r : ℕ) (out′ : List ℕ) → PlanPut en ad ro ma plan at out r out′ → Putting out₀ r (ring + 1) out′
+    unfolding bind
+    putting-on more plan f r out′ w = record {
+      from = omega arith;
+      to = omega arith;
+      within = omega (arith, w .within, w .long);
+      long = w .long ∙ c .long;
+      rest = λ z l q ts e n. go z l q ts n (c .rest z l q ts e n);
+    }
+      where
+        go : Sized en ro → Tabled en ad ro → p < 65536 → (ts : List Tunnel) → length out₀ ≡ length (tunnelsWords ts) → (us : List Tunnel) × (rings (rowsOf en ad ro ma) p a ring (end - ring) ≡ value us) × (take at out ++ tunnelsWords us ≡ tunnelsWords ts)
+            → (vs : List Tunnel) × (rings (rowsOf en ad ro ma) p a (ring + 1) (end - (ring + 1)) ≡ value vs) × (take r out′ ++ tunnelsWords vs ≡ tunnelsWords ts)
+        go z l q ts n (us, e, whole) = next (rings-split (rowsOf en ad ro ma) p a ring (end - (ring + 1)) us (ap (rings (rowsOf en ad ro ma) p a ring) (let v : suc (end - (ring + 1)) ≡ end - ring = omega arith in v) ∙ e))
+          where
+            next : (t : Option Tunnel) × (vs : List Tunnel) × (oneDma (rowsOf en ad ro ma) p a ring ≡ value t) × (rings (rowsOf en ad ro ma) p a (suc ring) (end - (ring + 1)) ≡ value vs) × (us ≡ Option·toList t ++ vs)
+                → (vs : List Tunnel) × (rings (rowsOf en ad ro ma) p a (ring + 1) (end - (ring + 1)) ≡ value vs) × (take r out′ ++ tunnelsWords vs ≡ tunnelsWords ts)
+            next (t, vs, d, g, h) = (
+              vs,
+              ap (λ k. rings (rowsOf en ad ro ma) p a k (end - (ring + 1))) (let v : ring + 1 ≡ suc ring = omega arith in v) ∙ g,
+              put-next r out′ plan w z l ts us vs t n whole h (f .answers z l q ∙ ap (λ o. bind o (λ t. value (planIf t))) d) (one-dma-walks (rowsOf en ad ro ma) p a ring t d),
+            )

@@ -1,0 +1,80 @@
+-- `discovery::put_dma` meets its contract.
+use Prim.Native.Nat.{_≤_}
+use mathlib.Core.Path.{sym, subst}
+use lib.Seq.{length-take-le}
+use borrow.Author.Needs.{needs}
+use Rattle.adapter.specs.Adapter.{adapterSite}
+use Rattle.discovery.proofs.Past.{end-range}
+use Rattle.discovery.proofs.Answering.{dma-absent, dma-unread, dma-refused, dma-short, dma-put}
+use Rattle.discovery.proofs.put_dma.Statement.{statement}
+use Rattle.discovery.proofs.put_dma.Tie as tie
+
+enum-told : tie.Need-enum-told
+enum-told c = search needs
+
+enum-told-2 : tie.Need-enum-told-2
+enum-told-2 c = search needs
+
+enum-known-most : tie.Need-enum-known-most
+enum-known-most c = search needs
+
+rings-end-requires : tie.Need-rings-end-requires
+rings-end-requires c κs = search needs
+
+tally-rings-requires : tie.Need-tally-rings-requires
+tally-rings-requires c κs = let m = c in subst (λ n. (1 ≤ n) × (n ≤ 65536)) (sym (m .rings-end .ensures)) (end-range _)
+
+enum-known-refusal : tie.Need-enum-known-refusal
+enum-known-refusal c = search needs
+
+enum-known-need : tie.Need-enum-known-need
+enum-known-need c = search needs
+
+returns : tie.Need-returns
+returns c = let m = c .before .before .before .before in dma-short _ _ _ _ _ _ _ _ _ _ (m .before .before .before .most .given .1) (m .before .rings-end .ensures) _ (m .tally-rings .ensures) _ (c .before .before .need .given .1) (c .if1 .taken)
+
+slice-relend-prefix-put-rings : tie.Need-slice-relend-prefix-put-rings
+slice-relend-prefix-put-rings c = search needs
+
+slice-aggregate-put-rings : tie.Need-slice-aggregate-put-rings
+slice-aggregate-put-rings c = sym (length-take-le _ _ (c .before .if1 .left))
+
+put-rings-requires : tie.Need-put-rings-requires
+put-rings-requires c κs = let m = c .before .before .before .before .before .before in subst (λ n. (1 ≤ n) × (n ≤ 65536)) (sym (m .rings-end .ensures)) (end-range _)
+
+returns-2 : tie.Need-returns-2
+returns-2 c = dma-absent _ _ _ _ _ _ _ _ (c .enum-told .given .1)
+
+returns-3 : tie.Need-returns-3
+unfolding adapterSite
+returns-3 c = dma-unread _ _ _ _ _ _ _ _ (c .enum-told2 .given .1)
+
+returns-4 : tie.Need-returns-4
+returns-4 c = let m = c .before .before .before in dma-refused _ _ _ _ _ _ _ _ _ _ (m .before .before .before .most .given .1) (m .before .rings-end .ensures) _ (m .tally-rings .ensures) _ (c .before .refusal .given .1)
+
+same-length : tie.Need-same-length
+same-length c = search needs
+
+returns-5 : tie.Need-returns-5
+returns-5 c = let m = c .before .before .before .before .before .before .before .before in dma-put _ _ _ _ _ _ _ _ _ _ (m .before .before .before .most .given .1) (m .before .rings-end .ensures) _ (m .tally-rings .ensures) _ (c .before .before .before .before .before .before .need .given .1) (c .before .before .before .before .if1 .left) (c .before .before .put-rings .last .1 .1 .1 .1 .1 .1 .1 .0) (c .before .before .put-rings .kept .1 .1 .1 .1 .1 .1 .1 .0) (c .before .before .put-rings .ensures)
+
+pub put-dma-spec : {M : Type 1} → statement M
+put-dma-spec =
+    tie.close
+    (tie.spec
+    enum-told
+    enum-told-2
+    enum-known-most
+    rings-end-requires
+    tally-rings-requires
+    enum-known-refusal
+    enum-known-need
+    returns
+    slice-relend-prefix-put-rings
+    slice-aggregate-put-rings
+    put-rings-requires
+    returns-2
+    returns-3
+    returns-4
+    same-length
+    returns-5)

@@ -1,0 +1,56 @@
+-- `discovery::put_rings` meets its contract.
+use Prim.Native.Nat.{_-_}
+use native.Mathlib.Omega.{arith}
+use borrow.Author.Needs.{needs}
+use Rattle.discovery.proofs.Rings.{Putting, putting-start, putting-on, putting-end}
+use Rattle.discovery.proofs.put_rings.Statement.{statement}
+use Rattle.discovery.proofs.put_rings.Tie as tie
+
+abbrev Inv-loop : tie.InvT-loop
+Inv-loop entries adapters routes marks place adapter end output₀ at₀ ring₀ output at ring = Putting entries adapters routes marks place adapter end output₀ at ring output
+
+abbrev μ-loop : tie.MeasureT-loop
+μ-loop entries adapters routes marks place adapter end output₀ at₀ ring₀ output at ring = end - ring
+
+loop-holds : tie.Need-loop-holds Inv-loop μ-loop
+loop-holds c = putting-start _ _ _ _ _ _ _ _ (c .before .before .before .before .before .pre .0)
+
+cast-one-dma : tie.Need-cast-one-dma Inv-loop μ-loop
+cast-one-dma c = omega (arith, c .loop-test .taken, c .before .before .before .before .before .before .before .pre .1)
+
+one-dma-requires : tie.Need-one-dma-requires Inv-loop μ-loop
+one-dma-requires c κs = search needs
+
+put-plan-requires : tie.Need-put-plan-requires Inv-loop μ-loop
+put-plan-requires c κs = c .before .before .before .loop .inv .within
+
+add-ring : tie.Need-add-ring Inv-loop μ-loop
+add-ring c = omega (arith, c .before .before .before .before .before .loop-test .taken, c .before .before .before .before .before .before .before .before .before .before .before .before .pre .1)
+
+loop-less : tie.Need-loop-less Inv-loop μ-loop
+loop-less c = omega (arith, c .before .before .before .before .before .loop-test .taken)
+
+loop-again : tie.Need-loop-again Inv-loop μ-loop
+loop-again c = let m = c .before .before in putting-on _ _ _ _ _ _ _ _ _ _ _ (m .before .before .before .before .loop .inv) (m .before .before .before .loop-test .taken) _ (m .before .before .one-dma .ensures) _ _ (m .put-plan .ensures)
+
+same-length : tie.Need-same-length Inv-loop μ-loop
+same-length c = c .before .loop .inv .long
+
+returns : tie.Need-returns Inv-loop μ-loop
+returns c = putting-end _ _ _ _ _ _ _ _ _ _ _ (c .before .loop .inv) (c .loop-test .left)
+
+pub put-rings-spec : {M : Type 1} → statement M
+put-rings-spec =
+    tie.close
+    (tie.spec
+    Inv-loop
+    μ-loop
+    loop-holds
+    cast-one-dma
+    one-dma-requires
+    put-plan-requires
+    add-ring
+    loop-less
+    loop-again
+    same-length
+    returns)

@@ -1,0 +1,105 @@
+-- For the contracts of private functions only. No promise to a caller rests on these. Assumes nothing.
+use Prim.Native.Nat.{ℕ, _+_, _≤_, _<_}
+use mathlib.Core.Path.{_≡_}
+use mathlib.Core.Bool.{false, cond}
+use mathlib.Core.List.{List, [], _∷_, _++_, Option·toList}
+use mathlib.Core.Option.{Option, none, some}
+use lib.Dec.{ltb, eqb}
+use lib.ListN.{length, take, drop}
+use Rattle.refusal.specs.Outcome.{Outcome, value, bind}
+use Rattle.usb4.specs.declared.TunnelType.the-variants as tunnelType
+use Rattle.tables.specs.Rows.{EntryRow, Rows}
+use Rattle.load.specs.Answers.{refusedBy}
+use Rattle.walk.specs.Rule.{walkFrom}
+use Rattle.walk.specs.Tables.{rowsOf, Tabled}
+use Rattle.path.specs.Words.{pathWords}
+use Rattle.path.specs.Put.{Sized}
+use Rattle.tunnel.specs.Tunnels.{Path, Tunnel, downAndUp, displayPort, rings, orNone, alone}
+use Rattle.tunnel.specs.Words.{tunnelsWords}
+use Rattle.tunnel.specs.Plans.{From, startOf, planIf, plannedOutcome}
+use Rattle.tunnel.specs.declared.Planned.{Planned}
+use Rattle.tunnel.specs.declared.Planned.the-variants as planned
+use Rattle.discovery.specs.Answers.{inRoom, outputBy, tunnelsOutcome, isList}
+use Rattle.discovery.specs.declared.TunnelsAnswer.{TunnelsAnswer}
+use Rattle.discovery.specs.declared.TunnelsAnswer.the-variants as answer
+use Rattle.discovery.specs.declared.Tally.{Tally}
+use Rattle.discovery.specs.declared.Tally.the-variants as tally
+
+-- words put from a place on, and the place after them
+pub record Wrote (at : ℕ) (ws out : List ℕ) (r : ℕ) (out′ : List ℕ) : Type 0 where
+  pub next : r ≡ at + length ws
+  pub whole : out′ ≡ take at out ++ ws ++ drop r out
+
+-- the path from a start, where there is one
+pub record PathPut (en ad ro ma : List ℕ) (f : From) (at : ℕ) (out : List ℕ) (r : ℕ) (out′ : List ℕ) : Type 0 where
+  pub within : r ≤ length out
+  pub long : length out′ ≡ length out
+  pub words : Sized en ro → Tabled en ad ro → (hs : List EntryRow) → walkFrom (rowsOf en ad ro ma) (f .stand) ≡ value (some hs) → at + length (pathWords (f .name) hs) ≤ length out → Wrote at (pathWords (f .name) hs) out r out′
+
+-- each path is the walk from where its first hop stands
+unfoldable pub AllWalk : Rows → List Path → Type 0
+AllWalk x [] = 0 ≤ 0
+AllWalk x (p ∷ ps) = (walkFrom x (startOf (p .hops)) ≡ value (some (p .hops))) × AllWalk x ps
+
+unfoldable pub Walks : Rows → Option Tunnel → Type 0
+Walks x none = 0 ≤ 0
+Walks x (some t) = AllWalk x (t .paths)
+
+-- the tunnel that is planned, if there is one
+pub record PlanPut (en ad ro ma : List ℕ) (plan : Planned) (at : ℕ) (out : List ℕ) (r : ℕ) (out′ : List ℕ) : Type 0 where
+  pub within : r ≤ length out
+  pub long : length out′ ≡ length out
+  pub words : Sized en ro → Tabled en ad ro → (o : Option Tunnel) → plannedOutcome plan ≡ value (planIf o) → Walks (rowsOf en ad ro ma) o → at + length (tunnelsWords (Option·toList o)) ≤ length out
+      → Wrote at (tunnelsWords (Option·toList o)) out r out′
+
+unfoldable pub tallyOf : Planned → Tally
+tallyOf (planned.Tunnel t c w n a b d) = tally.Words w
+tallyOf planned.Absent = tally.Words 0
+tallyOf (planned.Refused r) = tally.Refused r
+
+unfoldable pub tallied : Tally → Outcome ℕ
+tallied (tally.Words n) = value n
+tallied (tally.Refused r) = refusedBy r
+
+-- where rings end: no entry has a HopID above 65,535
+unfoldable pub ringsEnd : ℕ → ℕ
+ringsEnd most = cond (ltb 65535 most) 65536 (most + 1)
+
+-- the words of the tunnels of k rings from 1 on
+pub record Tallies (en ad ro ma : List ℕ) (p a k : ℕ) (r : Tally) : Type 0 where
+  pub counts : Sized en ro → Tabled en ad ro → p < 65536 → tallied r ≡ bind (rings (rowsOf en ad ro ma) p a 1 k) (λ ts. value (length (tunnelsWords ts)))
+
+-- an output as long as these words
+pub record RingsPut (en ad ro ma : List ℕ) (p a k : ℕ) (out out′ : List ℕ) : Type 0 where
+  pub long : length out′ ≡ length out
+  pub words : Sized en ro → Tabled en ad ro → p < 65536 → (ts : List Tunnel) → rings (rowsOf en ad ro ma) p a 1 k ≡ value ts → length out ≡ length (tunnelsWords ts) → out′ ≡ tunnelsWords ts
+
+-- what is answered and written follows what is discovered
+pub record Follows (o : Outcome (Option (List Tunnel))) (out : List ℕ) (r : TunnelsAnswer) (out′ : List ℕ) : Type 0 where
+  pub answers : tunnelsOutcome r ≡ bind o (inRoom (length out))
+  pub writes : out′ ≡ outputBy o out
+
+-- what holds on any tables
+pub record Free (out : List ℕ) (r : TunnelsAnswer) (out′ : List ℕ) : Type 0 where
+  pub kept : isList r ≡ false → out′ ≡ out
+  pub fits : (n : ℕ) → r ≡ answer.Words n → n ≤ length out
+  pub tail : (n : ℕ) → r ≡ answer.Words n → drop n out′ ≡ drop n out
+  pub long : length out′ ≡ length out
+
+-- a plan's tunnel, whatever it is the plan of
+pub record OneAnswered (en ad ro ma : List ℕ) (plan : Planned) (out : List ℕ) (r : TunnelsAnswer) (out′ : List ℕ) : Type 0 where
+  pub follows : Sized en ro → Tabled en ad ro → (o : Outcome (Option Tunnel)) → plannedOutcome plan ≡ bind o (λ t. value (planIf t)) → ((t : Option Tunnel) → o ≡ value t → Walks (rowsOf en ad ro ma) t) → Follows (bind o alone) out r out′
+  pub free : Free out r out′
+
+-- what f discovers in rows, for a place that a key has room for
+pub record Answered (en ad ro ma : List ℕ) (p : ℕ) (f : Rows → Outcome (Option (List Tunnel))) (out : List ℕ) (r : TunnelsAnswer) (out′ : List ℕ) : Type 0 where
+  pub follows : Sized en ro → Tabled en ad ro → p < 65536 → Follows (f (rowsOf en ad ro ma)) out r out′
+  pub free : Free out r out′
+
+-- the rings of a host interface, by its largest HopID
+unfoldable pub dmaBy : Rows → ℕ → ℕ → Outcome (Option ℕ) → Outcome (Option (List Tunnel))
+dmaBy x p a o = bind o (λ m. orNone m (λ hi. bind (rings x p a 1 hi) (λ ts. value (some ts))))
+
+-- the tunnel of an adapter that has one at most, by the number of its kind
+unfoldable pub tunnelBy : Rows → ℕ → ℕ → ℕ → Outcome (Option Tunnel)
+tunnelBy x p a n = cond (eqb n 4) (displayPort x p a) (cond (eqb n 6) (downAndUp x tunnelType.Pcie 5 6 p a) (cond (eqb n 8) (downAndUp x tunnelType.Usb3 0 1 p a) (value none)))

@@ -1,0 +1,405 @@
+// Discovery (module 7, `Tunnel::discover`) on the tables that a survey is loaded to: a tally first, then the words.
+ghost use Prim.Native.Nat.{_+_, _*_, _-_, _≤_, _<_};
+ghost use mathlib.Core.Path.{_≡_};
+ghost use mathlib.Core.Bool.{cond};
+ghost use lib.ListN.{length};
+ghost use Rattle.usb4.specs.Numbers.{tunnelNumber};
+ghost use Rattle.adapter.specs.Adapter.{factsRow, adapterSite, maxHopOutcome};
+ghost use Rattle.tunnel.specs.Tunnels.{discover};
+ghost use Rattle.tunnel.specs.Plans.{Plans, fromBy};
+ghost use Rattle.discovery.specs.Tables.{Discovered};
+ghost use Rattle.discovery.specs.Work.{PathPut, PlanPut, Tallies, RingsPut, OneAnswered, Answered, dmaBy, tunnelBy, tallyOf, ringsEnd};
+use adapter::Facts;
+use adapter::MaxHop;
+use load::Refusal;
+use path::WalkAnswer;
+use refusal::Fault;
+use refusal::Site;
+use tables::AdapterFound;
+use tables::DeviceFound;
+use tunnel::Planned;
+use tunnel::Start;
+use usb4::TunnelType;
+
+// A list of tunnels with its number of words, no list, the words needed (2), or another refusal.
+pub enum TunnelsAnswer {
+    Words(usize),
+    Absent,
+    Short(usize),
+    Refused(Refusal),
+}
+
+// The words that the tunnels of rings need, or what refuses them.
+pub enum Tally {
+    Words(usize),
+    Refused(Refusal),
+}
+
+// No survey loads to more.
+const MOST_ENTRIES: usize = 4096;
+
+const MOST_DEVICES: usize = 4096;
+
+// The head word of a tunnel.
+fn tunnel_word(kind: TunnelType, closed: bool, paths: u8) -> u32
+    ensures { λ r. ⌜ r ≡ 8 * 268435456 + cond closed 65536 0 + paths * 256 + tunnelNumber kind ⌝ }
+{
+    let word = 2147483648 + (paths as u32) * 256 + usb4::tunnel_number(kind);
+    if closed {
+        return word + 65536;
+    }
+    word
+}
+
+// A plan has no more than three paths.
+fn at_most_three(paths: u8) -> u8
+    ensures { λ r. ⌜ (paths ≤ 3 → r ≡ paths) × (3 < paths → r ≡ 3) ⌝ }
+{
+    if 3 < paths {
+        return 3;
+    }
+    paths
+}
+
+// Writes a path from a place of the output on; the place after it.
+fn put_start(
+    entries: &[u64],
+    adapters: &[u64],
+    routes: &[u64],
+    marks: &[u64],
+    start: Start,
+    output: &mut [u32],
+    at: usize,
+) -> usize
+    requires { ⌜ at ≤ length (now output) ⌝ }
+    ensures { λ r. ⌜ PathPut (now (entries .entry)) (now (adapters .entry)) (now (routes .entry)) (now (marks .entry)) (fromBy start) at (now (output .entry)) r (now (output .exit)) ⌝ }
+{
+    let WalkAnswer::Path(hops) = path::put_path(
+        entries,
+        adapters,
+        routes,
+        marks,
+        start.place,
+        start.adapter,
+        start.hop,
+        start.name,
+        &mut output[at..],
+    ) else {
+        return at;
+    };
+    at + (1 + 2 * hops)
+}
+
+// Writes a planned tunnel from a place of the output on; the place after it.
+fn put_plan(
+    entries: &[u64],
+    adapters: &[u64],
+    routes: &[u64],
+    marks: &[u64],
+    plan: Planned,
+    output: &mut [u32],
+    at: usize,
+) -> usize
+    requires { ⌜ at ≤ length (now output) ⌝ }
+    ensures { λ r. ⌜ PlanPut (now (entries .entry)) (now (adapters .entry)) (now (routes .entry)) (now (marks .entry)) plan at (now (output .entry)) r (now (output .exit)) ⌝ }
+{
+    let Planned::Tunnel {
+        kind,
+        closed,
+        words: _,
+        paths,
+        first,
+        second,
+        third,
+    } = plan
+    else {
+        return at;
+    };
+    if output.len() <= at {
+        return at;
+    }
+    output[at] = tunnel_word(kind, closed, at_most_three(paths));
+    if paths < 1 {
+        return at + 1;
+    }
+    let a = put_start(entries, adapters, routes, marks, first, output, at + 1);
+    if paths < 2 {
+        return a;
+    }
+    let b = put_start(entries, adapters, routes, marks, second, output, a);
+    if paths < 3 {
+        return b;
+    }
+    put_start(entries, adapters, routes, marks, third, output, b)
+}
+
+// The words of a planned tunnel.
+fn tally_plan(plan: Planned) -> Tally
+    ensures { λ r. ⌜ r ≡ tallyOf plan ⌝ }
+{
+    match plan {
+        Planned::Refused(refusal) => Tally::Refused(refusal),
+        Planned::Absent => Tally::Words(0),
+        Planned::Tunnel {
+            kind: _,
+            closed: _,
+            words,
+            paths: _,
+            first: _,
+            second: _,
+            third: _,
+        } => Tally::Words(words),
+    }
+}
+
+// Where the rings of a host interface end: no entry has a HopID above 65,535.
+fn rings_end(most: u32) -> u32
+    ensures { λ r. ⌜ r ≡ ringsEnd most ⌝ }
+{
+    if 65535 < most {
+        return 65536;
+    }
+    most + 1
+}
+
+// The words of the tunnels of rings 1 to `end`, which is left out.
+fn tally_rings(
+    entries: &[u64],
+    adapters: &[u64],
+    routes: &[u64],
+    marks: &[u64],
+    place: usize,
+    adapter: u8,
+    end: u32,
+) -> Tally
+    requires { ⌜ (1 ≤ end) × (end ≤ 65536) ⌝ }
+    ensures { λ r. ⌜ Tallies (now (entries .entry)) (now (adapters .entry)) (now (routes .entry)) (now (marks .entry)) place adapter (end - 1) r ⌝ }
+{
+    let mut need: usize = 0;
+    let mut ring: u32 = 1;
+    while ring < end {
+        let plan = tunnel::one_dma(
+            entries,
+            adapters,
+            routes,
+            marks,
+            place,
+            adapter,
+            ring as u16,
+        );
+        match tally_plan(plan) {
+            Tally::Refused(refusal) => {
+                return Tally::Refused(refusal);
+            }
+            Tally::Words(words) => {
+                need += words;
+            }
+        }
+        ring += 1;
+    }
+    Tally::Words(need)
+}
+
+// Writes the tunnels of rings 1 to `end`, which is left out.
+fn put_rings(
+    entries: &[u64],
+    adapters: &[u64],
+    routes: &[u64],
+    marks: &[u64],
+    place: usize,
+    adapter: u8,
+    end: u32,
+    output: &mut [u32],
+)
+    requires { ⌜ (1 ≤ end) × (end ≤ 65536) ⌝ }
+    ensures { λ _. ⌜ RingsPut (now (entries .entry)) (now (adapters .entry)) (now (routes .entry)) (now (marks .entry)) place adapter (end - 1) (now (output .entry)) (now (output .exit)) ⌝ }
+{
+    let mut at: usize = 0;
+    let mut ring: u32 = 1;
+    while ring < end {
+        let plan = tunnel::one_dma(
+            entries,
+            adapters,
+            routes,
+            marks,
+            place,
+            adapter,
+            ring as u16,
+        );
+        at = put_plan(entries, adapters, routes, marks, plan, output, at);
+        ring += 1;
+    }
+}
+
+// The tunnel of an adapter that has one at most.
+fn put_one(
+    entries: &[u64],
+    adapters: &[u64],
+    routes: &[u64],
+    marks: &[u64],
+    plan: Planned,
+    output: &mut [u32],
+) -> TunnelsAnswer
+    ensures { λ r. ⌜ OneAnswered (now (entries .entry)) (now (adapters .entry)) (now (routes .entry)) (now (marks .entry)) plan (now (output .entry)) r (now (output .exit)) ⌝ }
+{
+    match plan {
+        Planned::Refused(refusal) => TunnelsAnswer::Refused(refusal),
+        Planned::Absent => TunnelsAnswer::Absent,
+        Planned::Tunnel {
+            kind: _,
+            closed: _,
+            words,
+            paths: _,
+            first: _,
+            second: _,
+            third: _,
+        } => {
+            if output.len() < words {
+                return TunnelsAnswer::Short(words);
+            }
+            put_plan(
+                entries,
+                adapters,
+                routes,
+                marks,
+                plan,
+                &mut output[..words],
+                0,
+            );
+            TunnelsAnswer::Words(words)
+        }
+    }
+}
+
+// The tunnels of the rings of a host interface.
+fn put_dma(
+    entries: &[u64],
+    adapters: &[u64],
+    routes: &[u64],
+    marks: &[u64],
+    place: usize,
+    adapter: u8,
+    most: MaxHop,
+    output: &mut [u32],
+) -> TunnelsAnswer
+    ensures { λ r. ⌜ Answered (now (entries .entry)) (now (adapters .entry)) (now (routes .entry)) (now (marks .entry)) place (λ x. dmaBy x place adapter (maxHopOutcome (adapterSite place adapter) most)) (now (output .entry)) r (now (output .exit)) ⌝ }
+{
+    match most {
+        MaxHop::None => TunnelsAnswer::Absent,
+        MaxHop::NoField => TunnelsAnswer::Refused(Refusal::Fault(Fault::NoField(Site {
+            place,
+            adapter,
+        }))),
+        MaxHop::Hop(largest) => {
+            let end = rings_end(largest);
+            match tally_rings(entries, adapters, routes, marks, place, adapter, end) {
+                Tally::Refused(refusal) => TunnelsAnswer::Refused(refusal),
+                Tally::Words(need) => {
+                    if output.len() < need {
+                        return TunnelsAnswer::Short(need);
+                    }
+                    put_rings(
+                        entries,
+                        adapters,
+                        routes,
+                        marks,
+                        place,
+                        adapter,
+                        end,
+                        &mut output[..need],
+                    );
+                    TunnelsAnswer::Words(need)
+                }
+            }
+        }
+    }
+}
+
+// The tunnel of an adapter that has one at most, by the number of its kind.
+fn plan_of(
+    entries: &[u64],
+    adapters: &[u64],
+    routes: &[u64],
+    marks: &[u64],
+    place: usize,
+    adapter: u8,
+    kind: u32,
+) -> Planned
+    ensures { λ r. ⌜ Plans (now (entries .entry)) (now (adapters .entry)) (now (routes .entry)) (now (marks .entry)) place (λ x. tunnelBy x place adapter kind) r ⌝ }
+{
+    if kind == 4 {
+        return tunnel::display_port(entries, adapters, routes, marks, place, adapter);
+    }
+    if kind == 6 {
+        let pcie = TunnelType::Pcie;
+        return tunnel::down_and_up(entries, adapters, routes, marks, place, adapter, pcie, 5, 6);
+    }
+    if kind == 8 {
+        let usb3 = TunnelType::Usb3;
+        return tunnel::down_and_up(entries, adapters, routes, marks, place, adapter, usb3, 0, 1);
+    }
+    Planned::Absent
+}
+
+// By the adapter's kind; a disabled adapter or one of another kind has none, and a host interface is always enabled.
+fn of_kind(
+    entries: &[u64],
+    adapters: &[u64],
+    routes: &[u64],
+    marks: &[u64],
+    place: usize,
+    facts: Facts,
+    output: &mut [u32],
+) -> TunnelsAnswer
+    ensures { λ r. ⌜ Answered (now (entries .entry)) (now (adapters .entry)) (now (routes .entry)) (now (marks .entry)) place (λ x. discover x place (factsRow place facts)) (now (output .entry)) r (now (output .exit)) ⌝ }
+{
+    let number = facts.number;
+    let kind = facts.kind;
+    let code = usb4::type_number(kind);
+    if code == 3 {
+        let most = facts.max_hop;
+        return put_dma(
+            entries,
+            adapters,
+            routes,
+            marks,
+            place,
+            number,
+            most,
+            output,
+        );
+    }
+    let state = facts.state;
+    if usb4::state_number(state) != 2 {
+        return TunnelsAnswer::Absent;
+    }
+    let plan = plan_of(entries, adapters, routes, marks, place, number, code);
+    put_one(entries, adapters, routes, marks, plan, output)
+}
+
+// The tunnels from an adapter of the device at a place.
+pub fn discover_in(
+    entries: &[u64],
+    adapters: &[u64],
+    routes: &[u64],
+    marks: &[u64],
+    place: usize,
+    adapter: u8,
+    output: &mut [u32],
+) -> TunnelsAnswer
+    ensures { λ r. ⌜ Discovered (now (entries .entry)) (now (adapters .entry)) (now (routes .entry)) (now (marks .entry)) place adapter (now (output .entry)) r (now (output .exit)) ⌝ }
+{
+    if MOST_ENTRIES < entries.len() {
+        return TunnelsAnswer::Absent;
+    }
+    if MOST_DEVICES < routes.len() {
+        return TunnelsAnswer::Absent;
+    }
+    let DeviceFound::Device(_) = routers::find_device(routes, marks, place) else {
+        return TunnelsAnswer::Refused(Refusal::Missing);
+    };
+    let AdapterFound::Adapter(facts) = search::find_adapter(adapters, place, adapter) else {
+        return TunnelsAnswer::Refused(Refusal::Missing);
+    };
+    of_kind(entries, adapters, routes, marks, place, facts, output)
+}
