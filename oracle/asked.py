@@ -1,4 +1,4 @@
-"""The Rust, asked about surveys: what make-loads and make-walks share. Questions and answers are words, as they say."""
+"""The Rust, asked about surveys: what make-loads, make-walks and make-discoveries share. Questions and answers are words, as they say."""
 import json
 import os
 import subprocess

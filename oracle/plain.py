@@ -1,8 +1,10 @@
-"""Surveys written by hand, and cases about them with answers from document 01: what make-load-rules and make-walk-rules share."""
+"""Surveys written by hand, and cases about them with answers from document 01: what make-load-rules, make-walk-rules and make-discovery-rules
+share."""
 import collections
 import sys
 
 import reading
+from described import OURS, gen_t, register_words, set_words
 from stored import flipped, row, store
 
 ROWS = []
@@ -43,6 +45,10 @@ def refused(t, number, place, adapter=0, total=None):
     word = no(number, place, adapter)
     p, n = ((0, 1), (1, 2), (4095, 0))[len(ROWS) % 3]
     case(t, [([0], [word]), ([5 << 28 | p << 8 | n], [word])], total)
+
+
+def short(words):
+    return [15 << 28 | 2 << 24 | words]
 
 
 def store_rules(name, first, wanted, check):
@@ -91,6 +97,47 @@ def entry(hop, out=1, out_hop=8, relative=0, valid=1, odd=0):
     return reg(2 * hop + odd, relative, valid << 31 | out << 11 | out_hop, space=1)
 
 
+def box(at, up, *kinds, domain=0):
+    """A router whose adapters have those codes, or registers, and entries."""
+    t = router(len(kinds), up, at=at, domain=domain)
+    for n, (code, *paths) in enumerate(kinds, 1):
+        t += adapter(n, front(code) if isinstance(code, int) else code, paths)
+    return t
+
+
+def bare(at=1, relative=9, domain=0):
+    """A router without adapters; its one register is the second ROUTER_CS_1 of `upstream_lost`, or ours, or none."""
+    return device(ROUTER, [reg(1, relative, 1 << 8)], at=at, domain=domain)
+
+
 LANE_UP = reg(0x21, 1, 2 << 26 | 4 << 16, 1)  # LANE_ADP_CS_1: CL0, Gen 3
 PE = reg(0x39, 0, 1 << 31, 4)  # ADP_PCIE_CS_0
 TWO = router(2)
+
+
+# ---- what comes before anything that a call looks for --------------------------------------------
+
+
+def refused_first(surveys, every):
+    """3, 4 and each refusal of loading, around surveys of two devices: `every` has a list, the answer to all that is asked, and its length."""
+    four = register_words(0, {"name": "Four", "offset": 4})
+    bad = [5 << 28, 0, 0, 0]
+    for words, total, place in ((set_words(OURS) + [0], None, 91), (four, 16385, 16384), (four[:-1], None, 0)):
+        using(words, total)
+        for t in (*surveys, bad, surveys[-1] + device(ROUTER, []), []):
+            every(t, no(3, place))
+    using(set_words(OURS))
+    faults = {5: device(ROUTER, []), 7: device(XDOMAIN, at=2) + adapter(1), 6: router(1, at=2) + adapter(1, front(LANE), [entry(8, relative=1)]),
+              9: router(1, at=2) + adapter(1, front(PCIE), MISSING)}
+    for t in surveys:
+        every(t + bad, no(4, len(t)))
+        every(bad + t, no(4, 0))
+        every(t, no(4, 16384), 16385)
+        for n, fault in faults.items():
+            every(t + fault, no(n, 2, 1 if n in (6, 9) else 0))
+            every(fault + t, no(n, 0, 1 if n in (6, 9) else 0))
+            every(t + fault + bad[:3], no(4, len(t + fault)))
+    using(set_words(gen_t(ports=1)))
+    for t in surveys:
+        every(t + router(1, at=2) + adapter(1, front(GEN_T) + [reg(65533, 0, 1, 4)]), no(8, 2, 1))
+    using(set_words(OURS))

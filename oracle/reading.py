@@ -1,5 +1,6 @@
-"""Document 01's loading and walks, read into Python from its text and not from the Rust: what make-loads and make-walks compare the Rust's
-answers with, and make-load-rules and make-walk-rules their expected values. A refusal is an exception. Answers are words, as make-loads says."""
+"""Document 01's loading, walks and discovery, read into Python: what make-loads, make-walks and make-discoveries compare the Rust's answers with,
+and make-load-rules, make-walk-rules and make-discovery-rules their expected values. A refusal is an exception. Answers are words, as make-loads
+says. HopIDs and the order of walks in a discovery are in tunnel.rs alone, which module 7 names; all else is read from the document's text."""
 
 LONGEST = 16384
 UNKNOWN, INACTIVE, LANE, HOST, DP_IN, DP_OUT, PCIE_DOWN, PCIE_UP, USB3_DOWN, USB3_UP, GEN_T_DOWN, GEN_T_UP = range(12)
@@ -442,14 +443,131 @@ def walk_words(found, devices, place, number, start):
         return [r.word()]
     if hops is None:
         return [0]
-    words = [9 << 28 | 9 << 16 | len(hops)]
-    for at, enters, hop, leaves, out_hop in hops:
-        words += [10 << 28 | at << 16 | enters << 8 | leaves, hop << 16 | out_hop]
+    words = path_words(9, hops)
     return words if len(words) <= start >> 16 else [15 << 28 | 2 << 24 | len(words)]
 
 
+def path_words(name, hops):
+    words = [9 << 28 | name << 16 | len(hops)]
+    for at, enters, hop, leaves, out_hop in hops:
+        words += [10 << 28 | at << 16 | enters << 8 | leaves, hop << 16 | out_hop]
+    return words
+
+
+# ---- discovery (module 7) -----------------------------------------------------------------------
+
+USB3, DISPLAY_PORT, PCIE, DMA = range(4)
+PAIRS = {USB3_DOWN: (USB3, 0, 1), PCIE_DOWN: (PCIE, 5, 6)}  # a tunnel's type, and the names of its paths
+VIDEO, AUX_TX, AUX_RX, DMA_TX, DMA_RX = 2, 3, 4, 7, 8
+
+
+class Walks:
+    """The walks of one survey, each made once."""
+
+    def __init__(self, found, devices):
+        self.found, self.devices, self.made = found, devices, {}
+
+    def path(self, *start):
+        if start not in self.made:
+            self.made[start] = walk(self.found, self.devices, *start)
+        return self.made[start]
+
+    def back(self, hops, hop):
+        """The path that starts where another leaves."""
+        return self.path(hops[-1][0], hops[-1][3], hop)
+
+
+def lane_of(found, devices, place):
+    """Where an xdomain's paths come in: the parent's place, an adapter, and its HopIDs; None where the xdomain is passed over, False where a
+    ring's tunnel is dropped."""
+    parent = parent_from(found, devices, place)
+    number = None if parent is None else downstream_adapter(devices[parent], devices[place])
+    if number is None:
+        return None
+    a = numbered(devices[parent], number)
+    least = min_hop(a["kind"]) if a else None
+    most = None if least is None else max_hop(found, a, (parent, number))
+    return False if most is None else (parent, number, range(least, most + 1))
+
+
+def receive(walks, ring):
+    """A ring's receive path: the first whose last hop leaves by it; None without one, False where the ring's tunnel is dropped."""
+    for place, d in enumerate(walks.devices):
+        lane = lane_of(walks.found, walks.devices, place) if d["kind"] == 2 else None
+        if lane is False:
+            return False
+        for hop in lane[2] if lane else ():
+            path = walks.path(*lane[:2], hop)
+            if path and path[-1][4] == ring:
+                return path
+    return None
+
+
+def ring_paths(walks, place, number, ring):
+    """The paths of a ring's tunnel, each with its name; none where there is no tunnel."""
+    tx = walks.path(place, number, ring)
+    rx = receive(walks, ring)
+    return [] if rx is False else [(name, p) for name, p in ((DMA_TX, tx), (DMA_RX, rx)) if p]
+
+
+def pair_paths(walks, place, number, names):
+    down = walks.path(place, number, 8)
+    up = down and walks.back(down, 8)
+    return up and [*zip(names, (down, up))]
+
+
+def display_paths(walks, place, number):
+    video = walks.path(place, number, 9)
+    tx = video and walks.path(place, number, 8)
+    rx = tx and walks.back(tx, 8)
+    return rx and [(VIDEO, video), (AUX_TX, tx), (AUX_RX, rx)]
+
+
+def discover(walks, place, a):
+    """The tunnels from an adapter, each a type and paths; None for absent."""
+    number, kind = a["number"], a["kind"]
+    if not enabled(a):
+        return None
+    if kind in PAIRS:
+        type_, *names = PAIRS[kind]
+        paths = pair_paths(walks, place, number, names)
+        return [(type_, paths)] if paths else None
+    if kind == DP_IN:
+        paths = display_paths(walks, place, number)
+        return [(DISPLAY_PORT, paths)] if paths else None
+    if kind != HOST:
+        return None
+    most = max_hop(walks.found, a, (place, number))
+    if most is None:
+        return None
+    each = (ring_paths(walks, place, number, ring) for ring in range(min_hop(kind), most + 1))
+    return [(DMA, paths) for paths in each if paths]
+
+
+def closed(paths):
+    """More than one path, and the last leaves by the device and adapter where the first entered."""
+    first, last = paths[0][1][0], paths[-1][1][-1]
+    return len(paths) > 1 and (last[0], last[3]) == (first[0], first[1])
+
+
+def tunnel_words(type_, paths):
+    return [8 << 28 | closed(paths) << 16 | len(paths) << 8 | type_] + [w for name, hops in paths for w in path_words(name, hops)]
+
+
+def list_words(found, devices, place, a, room):
+    """The answer for an output of that many words."""
+    try:
+        tunnels = discover(Walks(found, devices), place, a)
+    except Refused as r:
+        return [r.word()]
+    if tunnels is None:
+        return [0]
+    words = [w for t in tunnels for w in tunnel_words(*t)]
+    return [1 << 28 | len(words), *words] if len(words) <= room else [15 << 28 | 2 << 24 | len(words)]
+
+
 # How many answers a refusal that comes before any of them stands for: one for each call.
-CALLS = {0: 1, 1: 3, 2: 8, 3: 1, 4: 1, 5: 1, 6: 1}
+CALLS = {0: 1, 1: 3, 2: 8, 3: 1, 4: 1, 5: 1, 6: 1, 7: 1}
 
 
 def answers(description_words, survey_words, questions):
@@ -481,4 +599,6 @@ def answers(description_words, survey_words, questions):
             out += cap_word(a, q[1])
         elif kind == 6:
             out += walk_words(found, devices, place, number, q[1])
+        elif kind == 7:
+            out += list_words(found, devices, place, a, q[1])
     return out

@@ -1397,6 +1397,24 @@ fn walk_words(devices: &[Device], place: usize, adapter: &Adapter, hop: u16) -> 
     }
 }
 
+/// A discovery's answer: 0 for none, the number of words and the words of a list, or the refusal that a panic stands for.
+fn list_words(devices: &[Device], place: usize, adapter: &Adapter) -> Option<Vec<u32>> {
+    let d = &devices[place];
+    match watched(devices, || Tunnel::discover(d, adapter, devices)) {
+        Ok(None) => Some(vec![0]),
+        Ok(Some(tunnels)) => {
+            let mut words = vec![0];
+            tunnels.iter().for_each(|t| tunnel_words(&mut words, devices, t));
+            words[0] = 1 << 28 | (words.len() - 1) as u32;
+            Some(words)
+        }
+        Err(p) => {
+            let (at, number) = locate_discover(devices, d, adapter)?;
+            Some(vec![refusal_word(refusal_of(&p), at, number)])
+        }
+    }
+}
+
 /// The words that a piece gives in a process of its own, which a walk that never ends takes with it: 13.
 fn in_child(f: impl FnOnce() -> Option<Vec<u32>>) -> Vec<u32> {
     let mut ends = [0; 2];
@@ -1440,6 +1458,9 @@ fn load_words(survey: &[u32], questions: &[u32]) -> Option<Vec<u32>> {
             Ok(d) => d,
             Err(f) => {
                 let (place, adapter) = f.place?;
+                if matches!(q >> 28, 3 | 4 | 6 | 7) {
+                    out.push(asked.next()?);
+                }
                 out.push(refusal_word(f.number, place, adapter));
                 continue;
             }
@@ -1469,6 +1490,11 @@ fn load_words(survey: &[u32], questions: &[u32]) -> Option<Vec<u32>> {
                 let adapter = adapter?;
                 out.push(start);
                 out.extend(in_child(|| walk_words(devices, place, adapter, start as u16)));
+            }
+            7 => {
+                let adapter = adapter?;
+                out.push(asked.next()?);
+                out.extend(in_child(|| list_words(devices, place, adapter)));
             }
             _ => return None,
         }

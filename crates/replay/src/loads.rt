@@ -3,6 +3,8 @@ use crate::case::after;
 use crate::case::input_end;
 use crate::case::next;
 use crate::case::word;
+use crate::lists::after_discovery;
+use crate::lists::discovery_says;
 use crate::names::Step;
 use crate::names::number_at;
 use crate::names::one;
@@ -49,7 +51,7 @@ fn short(head: u32) -> Answer {
 }
 
 // A value below 2^28.
-fn value(v: u64) -> u32 {
+pub fn value(v: u64) -> u32 {
     if 268435455 < v {
         return NEVER;
     }
@@ -355,6 +357,9 @@ fn after_every(line: &[u8], at: usize, d: &[u32], survey: &[u32], place: usize, 
     if !walk_says(d, survey, place, n, head) {
         return line.len();
     }
+    if !discovery_says(d, survey, place, n, head) {
+        return line.len();
+    }
     next(line, at)
 }
 
@@ -388,6 +393,9 @@ fn after_question(line: &[u8], at: usize, d: &[u32], survey: &[u32]) -> usize {
     }
     if kind == 6 {
         return after_walk(line, a, d, survey, place, n);
+    }
+    if kind == 7 {
+        return after_discovery(line, a, d, survey, place, n);
     }
     line.len()
 }

@@ -3,6 +3,7 @@
 // each line of totals says `differ 1` and where.
 mod answer;
 mod case;
+mod lists;
 mod loads;
 mod names;
 mod routes;
@@ -205,4 +206,6 @@ fn main() {
     replay(b"load-rules", Cases::Loads);
     replay(b"walks", Cases::Loads);
     replay(b"walk-rules", Cases::Loads);
+    replay(b"discoveries", Cases::Loads);
+    replay(b"discovery-rules", Cases::Loads);
 }

@@ -8,13 +8,13 @@ use crate::rule::mark;
 use crate::rule::mark_at;
 use path::WalkAnswer;
 
-// An output's words before a walk count on from here.
-const FIRST: u32 = 0x0a000000;
+// An output's words before a call count on from here.
+pub const FIRST: u32 = 0x0a000000;
 
-// How many words of the output an answer wrote; where none, its one word.
-struct Wrote {
-    words: usize,
-    head: u32,
+// How many words of the output an answer wrote; the word that says what it is, but for a path, whose first word does.
+pub struct Wrote {
+    pub words: usize,
+    pub head: u32,
 }
 
 fn told(a: WalkAnswer) -> Wrote {
@@ -43,7 +43,7 @@ fn path_words(hops: usize) -> usize {
     1 + 2 * hops
 }
 
-fn short_word(needed: usize) -> u32 {
+pub fn short_word(needed: usize) -> u32 {
     if 16777215 < needed {
         return NEVER;
     }
@@ -51,7 +51,7 @@ fn short_word(needed: usize) -> u32 {
 }
 
 // Whether no word from `from` on was written.
-fn kept(output: &[u32], from: usize) -> bool {
+pub fn kept(output: &[u32], from: usize) -> bool {
     let mut i = from;
     while i < output.len() {
         if output[i] != mark_at(FIRST, i) {
