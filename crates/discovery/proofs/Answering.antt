@@ -40,7 +40,7 @@ use Rattle.walk.specs.Tables.{rowsOf, Tabled}
 use Rattle.path.specs.Put.{Sized}
 use Rattle.tunnel.specs.Tunnels.{Tunnel, downAndUp, displayPort, rings, orNone, dma, alone, ofKind, discover}
 use Rattle.tunnel.specs.Words.{tunnelsWords}
-use Rattle.tunnel.specs.Plans.{planIf, plannedOutcome, wordsBy, Plans}
+use Rattle.tunnel.specs.Plans.{planIf, plannedOutcome, wordsBy, pathsBy, Plans}
 use Rattle.tunnel.specs.declared.Planned.{Planned}
 use Rattle.tunnel.specs.declared.Planned.the-variants as planned
 use Rattle.discovery.specs.Answers.{discoverAt, inRoom, outputBy, tunnelsOutcome, isList}
@@ -267,7 +267,7 @@ tunnel-walks x p a n t e = go (eqb n 4) (eqb n 6) (eqb n 8) t e
 -- a plan by the number of a kind
 module _ (en ad ro ma : List ℕ) (p a n : ℕ) where
   plans-as : (f : Rows → Outcome (Option Tunnel)) (r : Planned) → ((x : Rows) → tunnelBy x p a n ≡ f x) → Plans en ad ro ma p f r → Plans en ad ro ma p (λ x. tunnelBy x p a n) r
-  plans-as f r e g = record { answers = λ z t l. g .answers z t l ∙ ap (λ o. bind o (λ t. value (planIf t))) (sym (e (rowsOf en ad ro ma))); few = g .few }
+  plans-as f r e g = record { answers = λ z t l. g .answers z t l ∙ ap (λ o. bind o (λ t. value (planIf t))) (sym (e (rowsOf en ad ro ma))); few = g .few; three = g .three }
 
   pub plan-display-port : n ≡ 4 → (r : Planned) → Plans en ad ro ma p (λ x. displayPort x p a) r → Plans en ad ro ma p (λ x. tunnelBy x p a n) r
   unfolding tunnelBy
@@ -288,8 +288,8 @@ module _ (en ad ro ma : List ℕ) (p a n : ℕ) where
       ∙ ap (λ b. cond b (downAndUp x tunnelType.Usb3 0 1 p a) (value none)) (ne-eqb n 8 k)
 
   pub plan-other : (n ≡ 4 → ⊥) → (n ≡ 6 → ⊥) → (n ≡ 8 → ⊥) → Plans en ad ro ma p (λ x. tunnelBy x p a n) planned.Absent
-  unfolding plannedOutcome wordsBy planIf bind
-  plan-other i j k = record { answers = λ z t l. sym (ap (λ o. bind o (λ t. value (planIf t))) (none-by i j k (rowsOf en ad ro ma))); few = omega arith }
+  unfolding plannedOutcome wordsBy pathsBy planIf bind
+  plan-other i j k = record { answers = λ z t l. sym (ap (λ o. bind o (λ t. value (planIf t))) (none-by i j k (rowsOf en ad ro ma))); few = omega arith; three = omega arith }
 
 module _ (en ad ro ma : List ℕ) (p : ℕ) (f : Facts) (out : List ℕ) (r : TunnelsAnswer) (out′ : List ℕ) where
   abbrev Told : Type 0

@@ -5,9 +5,7 @@ use mathlib.Core.Path.{_≡_, refl, sym, ap, _∙_}
 use mathlib.Core.List.{List}
 use mathlib.Core.Option.{Option, none, some}
 use native.Mathlib.Omega.{arith}
-use borrow.Author.Tests.{eq-eqb, ne-eqb}
 use Rattle.refusal.specs.Outcome.{Outcome, refused, value, bind}
-use Rattle.usb4.specs.Numbers.{deviceKindNumber}
 use Rattle.route.specs.Route.{downstreamAdapter}
 use Rattle.route.specs.declared.AdapterFound.{AdapterFound}
 use Rattle.route.specs.declared.AdapterFound.the-variants as found
@@ -18,7 +16,7 @@ use Rattle.load.specs.declared.Refusal.{Refusal}
 use Rattle.load.proofs.Result.{refused-bind}
 use Rattle.fabric.specs.Tables.{rowsWith, InOrder}
 use Rattle.fabric.proofs.Laws.{device-fits}
-use Rattle.parents.specs.Parents.{isXdomain, parentOf, parentOutcome}
+use Rattle.parents.specs.Parents.{parentOf, parentOutcome}
 use Rattle.parents.specs.declared.ParentAnswer.{ParentAnswer}
 use Rattle.parents.specs.declared.ParentAnswer.the-variants as parent
 use Rattle.receive.specs.Receive.{Lane, Lane.lane, Lane.passed, Lane.dropped, orDropped, hopsOf, beneath, underRouter, underParent, taken, laneOf}
@@ -51,15 +49,6 @@ beneath-by x d e q a b f g h = ap (beneath x q) (sym h ∙ g) ∙ ap (underRoute
 pub beneath-at : (x : Rows) (q n : ℕ) (o : Option AdapterRow) → o ≡ adapterIn (x .adapters) q n → orDropped o (hopsOf q) ≡ beneath x q (found.Adapter n)
 unfolding beneath
 beneath-at x q n o e = ap (λ (z : Option AdapterRow). orDropped z (hopsOf q)) e
-
--- of a kind by its number
-pub taken-by : (d : DeviceRow) (n : ℕ) → n ≡ deviceKindNumber (d .kind) → n ≡ 2 → taken d ≡ true
-unfolding taken isXdomain
-taken-by d n e f = eq-eqb _ _ (sym e ∙ f)
-
-pub left-by : (d : DeviceRow) (n : ℕ) → n ≡ deviceKindNumber (d .kind) → (n ≡ 2 → ⊥) → taken d ≡ false
-unfolding taken isXdomain
-left-by d n e f = ne-eqb _ _ (λ g. f (e ∙ g))
 
 pub lane-nowhere : (x : Rows) (p : ℕ) → none ≡ deviceIn (x .devices) p → value passed ≡ laneAt x p
 unfolding laneAt laneBy

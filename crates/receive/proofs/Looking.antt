@@ -65,8 +65,8 @@ module _ (en ad ro ma : List ℕ) (ring q n h hi : ℕ) where
         unfolding tallyOutcome
         looked-absent g = looked-on (λ t l. walk-absent ring _ _ (come walked.Absent g t l))
 
-        pub looked-refused : (r : Refusal) → w ≡ walked.Refused r → Looked en ad ro ma ring q n h hi (step.Ends (answer.Refused r))
-        unfolding tallyOutcome Stepped endHops receivedOutcome hopsBy
+        pub looked-refused : (r : Refusal) → w ≡ walked.Refused r → Looked en ad ro ma ring q n h hi (step.Refused r)
+        unfolding tallyOutcome Stepped endHops
         looked-refused r g = record {
           stepped = λ t l after. walk-refused ring _ _ r after (come (walked.Refused r) g t l) ∙ ap (λ (o : Outcome Receive). said (bind o (orNext after))) (sym (there t l));
           further = λ j f. absurd (let z : _≡_ {A = ℕ} 0 1 = cc in omega arith);
@@ -78,7 +78,7 @@ module _ (en ad ro ma : List ℕ) (ring q n h hi : ℕ) where
           unfolding tallyOutcome
           looked-other f = looked-on (λ t z. walk-other ring _ _ _ (come (walked.Path m p b o) g t z) f)
 
-          pub looked-fits : o ≡ ring → Looked en ad ro ma ring q n h hi (step.Ends (answer.Path q n k m p b))
+          pub looked-fits : o ≡ ring → Looked en ad ro ma ring q n h hi (step.Fits (answer.Path q n k m p b))
           unfolding tallyOutcome Stepped endHops receivedOutcome hopsBy hopsOfWalk
           looked-fits f = record {
             stepped = λ t l after.

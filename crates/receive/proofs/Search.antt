@@ -164,6 +164,10 @@ module _ (en ad ro ma : List ℕ) (ring : ℕ) where
       unfolding Stepped
       among-on j e = record { empty = s .empty; fits = s .fits; whole = λ t. s .whole t ∙ ap (λ (o : Outcome Receive). said (bind o (orNext (left (rowsOf en ad ro ma) ring (i + 1))))) (look (step.On j) e t) }
 
-      pub among-ends : (a : Received) → u ≡ step.Ends a → Receives en ad ro ma ring a
+      pub among-fits : (a : Received) → u ≡ step.Fits a → Receives en ad ro ma ring a
       unfolding Stepped endHops
-      among-ends a e = record { answers = λ t. look (step.Ends a) e t _ ∙ sym (s .whole t); few = omega (arith, k .few, ap endHops e) }
+      among-fits a e = record { answers = λ t. look (step.Fits a) e t _ ∙ sym (s .whole t); few = omega (arith, k .few, ap endHops e) }
+
+      pub among-refused : (a : Refusal) → u ≡ step.Refused a → Receives en ad ro ma ring (answer.Refused a)
+      unfolding Stepped receivedOutcome hopsBy
+      among-refused a e = record { answers = λ t. look (step.Refused a) e t _ ∙ sym (s .whole t); few = omega arith }

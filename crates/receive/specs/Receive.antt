@@ -26,7 +26,7 @@ pub data Lane : Type 0 where
   passed : Lane
   dropped : Lane
 
--- the ring's tunnel is dropped where a lane adapter is missing or has no HopIDs: the Rust's `?`
+-- the ring's tunnel is dropped where a lane adapter is missing, or has no least or no largest HopID: the Rust's `?`
 unfoldable pub orDropped : {A : Type 0} → Option A → (A → Outcome Lane) → Outcome Lane
 orDropped none f = value dropped
 orDropped (some a) f = f a

@@ -38,16 +38,18 @@ laneAt x p = laneBy x p (deviceIn (x .devices) p)
 unfoldable pub upTo : Rows → ℕ → ℕ → ℕ → ℕ → ℕ → Outcome Receive
 upTo x ring q n h hi = amongHops x ring q n h (hi + 1 - h)
 
--- the HopIDs before the one to look at next give nothing; none is left to give anything; or what is found is the answer, whatever comes after
+-- the HopIDs before the one to look at next give nothing; none is left to give anything; or the path that fits, or what refuses it, is the answer, whatever comes after
 unfoldable pub Stepped : Rows → ℕ → ℕ → ℕ → ℕ → ℕ → Step → Type 0
 Stepped x ring q n h hi (step.On k) = upTo x ring q n h hi ≡ upTo x ring q n k hi
 Stepped x ring q n h hi step.Over = upTo x ring q n h hi ≡ value nothing
-Stepped x ring q n h hi (step.Ends r) = (after : Outcome Receive) → receivedOutcome ring r ≡ bind (bind (upTo x ring q n h hi) (orNext after)) (λ v. value (saidOf v))
+Stepped x ring q n h hi (step.Fits r) = (after : Outcome Receive) → receivedOutcome ring r ≡ bind (bind (upTo x ring q n h hi) (orNext after)) (λ v. value (saidOf v))
+Stepped x ring q n h hi (step.Refused r) = (after : Outcome Receive) → refusedBy r ≡ bind (bind (upTo x ring q n h hi) (orNext after)) (λ v. value (saidOf v))
 
 unfoldable pub endHops : Step → ℕ
 endHops (step.On k) = 0
 endHops step.Over = 0
-endHops (step.Ends r) = hopsBy r
+endHops (step.Fits r) = hopsBy r
+endHops (step.Refused r) = 0
 
 -- so it is in tables in order; in any others the HopID to look at next is further on all the same
 pub record Looked (en ad ro ma : List ℕ) (ring q n h hi : ℕ) (r : Step) : Type 0 where

@@ -4,7 +4,7 @@ ghost use mathlib.Core.Path.{_≡_};
 ghost use Rattle.adapter.specs.Adapter.{factsRow};
 ghost use Rattle.tables.specs.Rows.{deviceIn};
 ghost use Rattle.tables.specs.Found.{deviceRow};
-ghost use Rattle.receive.specs.Receive.{hopsOf, underRouter};
+ghost use Rattle.receive.specs.Receive.{hopsOf, underRouter, taken};
 ghost use Rattle.receive.specs.Tables.{Receives};
 ghost use Rattle.receive.specs.Work.{laneOutcome, LaneIs, laneAt, Looked};
 use adapter::Facts;
@@ -48,11 +48,12 @@ pub enum LaneFound {
     Refused(Refusal),
 }
 
-// The HopID to look at next; none is left; or what the search comes to.
+// The HopID to look at next; none is left; a path that leaves by the ring; or what refuses it.
 pub enum Step {
     On(u32),
     Over,
-    Ends(Received),
+    Fits(Received),
+    Refused(Refusal),
 }
 
 // The HopIDs of an adapter of the router at a place, or 6.
@@ -96,6 +97,14 @@ fn beneath(adapters: &[u64], routes: &[u64], marks: &[u64], d: DeviceFacts, q: u
     hops_of(q, f)
 }
 
+// Whether a device is looked at: xdomains are, of any domain.
+fn taken(d: DeviceFacts) -> bool
+    ensures { λ r. ⌜ ((p : ℕ) → r ≡ taken (deviceRow p d)) ⌝ }
+{
+    let kind = d.kind;
+    usb4::kind_number(kind) == 2
+}
+
 // Where the receive paths of the device at a place come in: an xdomain's, at its parent.
 fn lane_of(adapters: &[u64], routes: &[u64], marks: &[u64], place: usize) -> LaneFound
     ensures { λ r. ⌜ LaneIs (now (adapters .entry)) (now (routes .entry)) (now (marks .entry)) (λ x. laneAt x place) r ⌝ }
@@ -103,8 +112,7 @@ fn lane_of(adapters: &[u64], routes: &[u64], marks: &[u64], place: usize) -> Lan
     let DeviceFound::Device(d) = routers::find_device(routes, marks, place) else {
         return LaneFound::Passed;
     };
-    let kind = d.kind;
-    if usb4::kind_number(kind) != 2 {
+    if !taken(d) {
         return LaneFound::Passed;
     }
     match parents::parent_of(routes, marks, adapters, place, d) {
@@ -139,7 +147,7 @@ fn look_at(
         return Step::Over;
     }
     match walk::tally(entries, adapters, routes, marks, place, adapter, h) {
-        Walked::Refused(refusal) => Step::Ends(Received::Refused(refusal)),
+        Walked::Refused(refusal) => Step::Refused(refusal),
         Walked::Absent => Step::On(at + 1),
         Walked::Path {
             hops,
@@ -150,7 +158,7 @@ fn look_at(
             if last != ring {
                 return Step::On(at + 1);
             }
-            Step::Ends(Received::Path {
+            Step::Fits(Received::Path {
                 place,
                 adapter,
                 hop: h,
@@ -210,8 +218,11 @@ pub fn receive(
                         Step::Over => {
                             break;
                         }
-                        Step::Ends(r) => {
-                            found = r;
+                        Step::Refused(refusal) => {
+                            return Received::Refused(refusal);
+                        }
+                        Step::Fits(path) => {
+                            found = path;
                             break 'rx_path;
                         }
                     }

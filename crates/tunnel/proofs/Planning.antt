@@ -25,7 +25,7 @@ use Rattle.path.proofs.Answering.{hops-few}
 use Rattle.receive.specs.Receive.{at}
 use Rattle.tunnel.specs.Tunnels.{Path, Tunnel, path, leaving, orAbsent, needed, tunnelOf, downAndUp, displayPort}
 use Rattle.tunnel.specs.Words.{backTo, lastPath, closedBy, closed, pathsWords, tunnelWords}
-use Rattle.tunnel.specs.Plans.{From, Plan, startOf, fromOf, planOf, planIf, fromBy, plannedOutcome, wordsBy, Plans}
+use Rattle.tunnel.specs.Plans.{From, Plan, startOf, fromOf, planOf, planIf, fromBy, plannedOutcome, wordsBy, pathsBy, Plans}
 use Rattle.tunnel.specs.Work.{Draws, startBy, leavesBy, lastPlan, finished, auxiliary, onePath}
 use Rattle.tunnel.specs.declared.Start.{Start}
 use Rattle.tunnel.specs.declared.Planned.{Planned}
@@ -122,20 +122,20 @@ Words n w = (w ≤ 131071) × (n < 65536 → w ≡ 1 + 2 * n)
 
 module _ (en ad ro ma : List ℕ) (p : ℕ) where
   pub plans-refused : (f : Rows → Outcome (Option Tunnel)) (z : Refusal) → (Tabled en ad ro → p < 65536 → refusedBy z ≡ f (rowsOf en ad ro ma)) → Plans en ad ro ma p f (answer.Refused z)
-  unfolding plannedOutcome wordsBy
-  plans-refused f z g = record { answers = λ y t l. sym (refused-bind z (λ o. value (planIf o))) ∙ ap planned (g t l); few = omega arith }
+  unfolding plannedOutcome wordsBy pathsBy
+  plans-refused f z g = record { answers = λ y t l. sym (refused-bind z (λ o. value (planIf o))) ∙ ap planned (g t l); few = omega arith; three = omega arith }
 
   pub plans-absent : (f : Rows → Outcome (Option Tunnel)) → (Tabled en ad ro → p < 65536 → value none ≡ f (rowsOf en ad ro ma)) → Plans en ad ro ma p f answer.Absent
-  unfolding plannedOutcome wordsBy bind planIf
-  plans-absent f g = record { answers = λ y t l. ap planned (g t l); few = omega arith }
+  unfolding plannedOutcome wordsBy pathsBy bind planIf
+  plans-absent f g = record { answers = λ y t l. ap planned (g t l); few = omega arith; three = omega arith }
 
   pub draws-refused : (f : Rows → Outcome (Option Plan)) (z : Refusal) → (Tabled en ad ro → p < 65536 → refusedBy z ≡ f (rowsOf en ad ro ma)) → Draws en ad ro ma p f (answer.Refused z)
-  unfolding plannedOutcome wordsBy
-  draws-refused f z g = record { answers = λ y t l. g t l; few = omega arith }
+  unfolding plannedOutcome wordsBy pathsBy
+  draws-refused f z g = record { answers = λ y t l. g t l; few = omega arith; three = omega arith }
 
   pub draws-absent : (f : Rows → Outcome (Option Plan)) → (Tabled en ad ro → p < 65536 → value none ≡ f (rowsOf en ad ro ma)) → Draws en ad ro ma p f answer.Absent
-  unfolding plannedOutcome wordsBy
-  draws-absent f g = record { answers = λ y t l. g t l; few = omega arith }
+  unfolding plannedOutcome wordsBy pathsBy
+  draws-absent f g = record { answers = λ y t l. g t l; few = omega arith; three = omega arith }
 
 -- a ring's tunnel of one path
 pub one-answer : (w : ℕ) (s : Start) {a b d : Start} → a ≡ s → b ≡ s → d ≡ s → answer.Tunnel tunnelType.Dma false w 1 a b d ≡ onePath w s
@@ -152,16 +152,17 @@ module _ (en ad ro ma : List ℕ) (kind : TunnelType) (words paths : ℕ) (first
   unfolding finished at
   finish-absent e = draws-absent en ad ro ma _ _ (λ t l. sym (needed-none _ _ _ (tally-absent en ad ro ma _ r f t l e)))
 
-  pub finish-path : (n q a h w : ℕ) (c : Bool) → r ≡ walked.Path n q a h → c ≡ (eqb q (first .place) && eqb a (first .adapter)) → Words n w → words ≤ 262143
+  pub finish-path : (n q a h w : ℕ) (c : Bool) → r ≡ walked.Path n q a h → c ≡ (eqb q (first .place) && eqb a (first .adapter)) → Words n w → words ≤ 262143 → paths ≤ 3
       → Draws en ad ro ma (last .place) (λ x. finished x kind words paths first second last) (answer.Tunnel kind c (words + w) paths first second last)
-  unfolding finished at lastPlan plannedOutcome wordsBy
-  finish-path n q a h w c e g (m, k) v = record {
+  unfolding finished at lastPlan plannedOutcome wordsBy pathsBy
+  finish-path n q a h w c e g (m, k) v o = record {
     answers = λ y t l.
         let u = tally-path en ad ro ma _ r f t l n q a h e in
         let hs = u .0 in
         same-plan kind (g ∙ sym (u .1 .end (first .place) (first .adapter))) (omega (arith, u .1 .count, k (omega (arith, hops-few en ad ro ma _ r y f n q a h e)))) refl
         ∙ sym (needed-path _ _ (u .0) _ (u .1 .walk));
     few = omega arith;
+    three = o;
   }
 
 -- two paths
@@ -192,6 +193,7 @@ module _ (en ad ro ma : List ℕ) (p a : ℕ) (kind : TunnelType) (down up : ℕ
         ∙ ap (λ s. planned (needed x s (λ us. tunnelOf kind (path down ds ∷ path up us ∷ [])))) (sym (u .1 .leave 8))
         ∙ ap planned (sym (needed-path x (at p a 8) ds _ (u .1 .walk)));
     few = d .few;
+    three = d .three;
   }
 
 -- AUX TX, then AUX RX from where it leaves
@@ -219,6 +221,7 @@ module _ (en ad ro ma : List ℕ) (p a words : ℕ) (r : Walked) (f : Tallied en
         ∙ ap (λ c. finished x tunnelType.DisplayPort (words + c) 3 (startBy (at p a 9) 2) (startBy (at p a 8) 3) (startBy (leaving 8 (u .0)) 4)) (k (omega (arith, few)) ∙ ap (λ c. 1 + 2 * c) (sym (u .1 .count)))
         ∙ sym (needed-path x (at p a 8) (u .0) _ (u .1 .walk));
     few = d .few;
+    three = d .three;
   }
 
 -- three paths
@@ -245,4 +248,5 @@ module _ (en ad ro ma : List ℕ) (p a : ℕ) (r : Walked) (f : Tallied en ad ro
         ∙ sym (needed-plan x (at p a 8) _)
         ∙ ap planned (sym (needed-path x (at p a 9) (u .0) _ (u .1 .walk)));
     few = d .few;
+    three = d .three;
   }

@@ -24,7 +24,7 @@ use Rattle.receive.specs.Tables.{Said, Said.none as said-none, Said.dropped, sa
 use Rattle.receive.specs.declared.Received.{Received}
 use Rattle.receive.specs.declared.Received.the-variants as found
 use Rattle.tunnel.specs.Tunnels.{path, tunnelOf, txPath, withPaths, ringTunnel, oneDma}
-use Rattle.tunnel.specs.Plans.{Plan, startOf, planIf, fromBy, plannedOutcome, wordsBy, Plans}
+use Rattle.tunnel.specs.Plans.{Plan, startOf, planIf, fromBy, plannedOutcome, wordsBy, pathsBy, Plans}
 use Rattle.tunnel.specs.Work.{Draws, startBy, leavesBy, onePath, onePlan, alonePlan, withPlan, ringBy}
 use Rattle.tunnel.specs.declared.Start.{Start}
 use Rattle.tunnel.specs.declared.Planned.{Planned}
@@ -116,46 +116,46 @@ module _ (en ad ro ma : List ℕ) (ring : ℕ) (r : Received) (f : Receives en a
   ring-refused g z e = draws-refused en ad ro ma 0 _ z (λ t l. sym (refused-bind z (λ v. value (g v))) ∙ ap (λ o. bind o (λ v. value (g v))) (sym (ap (receivedOutcome ring) e) ∙ f .answers t))
 
   -- what is said of it is put in
-  ring-says : (g : Said → Option Plan) (v : Said) (y : Planned) → receivedOutcome ring r ≡ value v → (Sized en ro → plannedOutcome y ≡ value (g v)) → wordsBy y ≤ 1048576 → Draws en ad ro ma 0 (λ x. ringBy x ring g) y
+  ring-says : (g : Said → Option Plan) (v : Said) (y : Planned) → receivedOutcome ring r ≡ value v → (Sized en ro → plannedOutcome y ≡ value (g v)) → wordsBy y ≤ 1048576 → pathsBy y ≤ 3 → Draws en ad ro ma 0 (λ x. ringBy x ring g) y
   unfolding ringBy bind
-  ring-says g v y e h k = record { answers = λ z t l. h z ∙ ap (λ o. bind o (λ v. value (g v))) (sym e ∙ f .answers t); few = k }
+  ring-says g v y e h k j = record { answers = λ z t l. h z ∙ ap (λ o. bind o (λ v. value (g v))) (sym e ∙ f .answers t); few = k; three = j }
 
   pub alone-lost : r ≡ found.Lost → Draws en ad ro ma 0 (λ x. ringBy x ring alonePlan) answer.Absent
-  unfolding receivedOutcome plannedOutcome wordsBy alonePlan
-  alone-lost e = ring-says alonePlan dropped answer.Absent (ap (receivedOutcome ring) e) (λ z. refl) (omega arith)
+  unfolding receivedOutcome plannedOutcome wordsBy pathsBy alonePlan
+  alone-lost e = ring-says alonePlan dropped answer.Absent (ap (receivedOutcome ring) e) (λ z. refl) (omega arith) (omega arith)
 
   pub alone-nothing : r ≡ found.Nothing → Draws en ad ro ma 0 (λ x. ringBy x ring alonePlan) answer.Absent
-  unfolding receivedOutcome plannedOutcome wordsBy alonePlan
-  alone-nothing e = ring-says alonePlan said-none answer.Absent (ap (receivedOutcome ring) e) (λ z. refl) (omega arith)
+  unfolding receivedOutcome plannedOutcome wordsBy pathsBy alonePlan
+  alone-nothing e = ring-says alonePlan said-none answer.Absent (ap (receivedOutcome ring) e) (λ z. refl) (omega arith) (omega arith)
 
   few-hops : (q n h k o b : ℕ) → r ≡ found.Path q n h k o b → Sized en ro → k ≤ 4096
   unfolding hopsBy
   few-hops q n h k o b e z = let v : k ≤ length en = subst (λ y. hopsBy y ≤ length en) e (f .few) in omega (arith, z .entries)
 
   pub alone-path : (q n h k o b w : ℕ) (y : Planned) → r ≡ found.Path q n h k o b → Words k w → y ≡ onePath (1 + w) (startBy (at q n h) 8) → Draws en ad ro ma 0 (λ x. ringBy x ring alonePlan) y
-  unfolding receivedOutcome plannedOutcome wordsBy alonePlan onePath onePlan startBy fromBy at
+  unfolding receivedOutcome plannedOutcome wordsBy pathsBy alonePlan onePath onePlan startBy fromBy at
   alone-path q n h k o b w y e (m, g) i = subst (Draws en ad ro ma 0 (λ x. ringBy x ring alonePlan)) (sym i)
       (ring-says alonePlan _ (onePath (1 + w) (startBy (at q n h) 8)) (ap (receivedOutcome ring) e)
       (λ z. ap (λ c. value (some (plan tunnelType.Dma false (1 + c) (from (at q n h) 8 ∷ [])))) (g (omega (arith, few-hops q n h k o b e z))))
-      (omega arith))
+      (omega arith) (omega arith))
 
   module _ (p a words : ℕ) (few : words ≤ 131072) where
     pub with-lost : r ≡ found.Lost → Draws en ad ro ma 0 (λ x. ringBy x ring (withPlan (at p a ring) words)) answer.Absent
-    unfolding receivedOutcome plannedOutcome wordsBy withPlan
-    with-lost e = ring-says (withPlan (at p a ring) words) dropped answer.Absent (ap (receivedOutcome ring) e) (λ z. refl) (omega arith)
+    unfolding receivedOutcome plannedOutcome wordsBy pathsBy withPlan
+    with-lost e = ring-says (withPlan (at p a ring) words) dropped answer.Absent (ap (receivedOutcome ring) e) (λ z. refl) (omega arith) (omega arith)
 
     pub with-nothing : (y : Planned) → r ≡ found.Nothing → y ≡ onePath words (startBy (at p a ring) 7) → Draws en ad ro ma 0 (λ x. ringBy x ring (withPlan (at p a ring) words)) y
-    unfolding receivedOutcome plannedOutcome wordsBy withPlan onePath onePlan startBy fromBy at
+    unfolding receivedOutcome plannedOutcome wordsBy pathsBy withPlan onePath onePlan startBy fromBy at
     with-nothing y e i = subst (Draws en ad ro ma 0 (λ x. ringBy x ring (withPlan (at p a ring) words))) (sym i)
-        (ring-says (withPlan (at p a ring) words) said-none (onePath words (startBy (at p a ring) 7)) (ap (receivedOutcome ring) e) (λ z. refl) (omega arith))
+        (ring-says (withPlan (at p a ring) words) said-none (onePath words (startBy (at p a ring) 7)) (ap (receivedOutcome ring) e) (λ z. refl) (omega arith) (omega arith))
 
     pub with-path : (q n h k o b w : ℕ) (c : Bool) (first second third : Start) → r ≡ found.Path q n h k o b → Words k w → c ≡ (eqb o p && eqb b a) → first ≡ startBy (at p a ring) 7 → second ≡ startBy (at q n h) 8
         → Draws en ad ro ma 0 (λ x. ringBy x ring (withPlan (at p a ring) words)) (answer.Tunnel tunnelType.Dma c (words + w) 2 first second third)
-    unfolding receivedOutcome plannedOutcome wordsBy withPlan startBy fromBy at
+    unfolding receivedOutcome plannedOutcome wordsBy pathsBy withPlan startBy fromBy at
     with-path q n h k o b w c first second third e (m, g) i j v =
         ring-says (withPlan (at p a ring) words) _ _ (ap (receivedOutcome ring) e)
         (λ z. same-plan tunnelType.Dma i (ap (λ d. words + d) (g (omega (arith, few-hops q n h k o b e z)))) (ap (λ s. fromBy s ∷ fromBy second ∷ []) j ∙ ap (λ s. from (at p a ring) 7 ∷ fromBy s ∷ []) v))
-        (omega arith)
+        (omega arith) (omega arith)
 
 -- ---- a ring's tunnel
 
@@ -172,6 +172,7 @@ module _ (en ad ro ma : List ℕ) (p a ring : ℕ) (r : Walked) (f : Tallied en 
         d .answers v t (omega arith) ∙ alone-plan (receive x ring) (hops-received x ring)
         ∙ ap (λ o. planned (bind o (λ tx. bind (receive x ring) (λ u. value (ringTunnel tx u))))) (sym (tally-absent en ad ro ma _ r f t l e));
     few = d .few;
+    three = d .three;
   }
 
   pub dma-with : (n q b h w : ℕ) (y : Planned) → r ≡ walked.Path n q b h → Words n w → Draws en ad ro ma 0 (λ x. ringBy x ring (withPlan (at p a ring) (1 + w))) y → Plans en ad ro ma p (λ x. oneDma x p a ring) y
@@ -185,4 +186,5 @@ module _ (en ad ro ma : List ℕ) (p a ring : ℕ) (r : Walked) (f : Tallied en 
         ∙ with-plan p a ring w (u .0) (receive x ring) (omega (arith, u .1 .count, few)) (u .1 .start) (k (omega (arith, few)) ∙ ap (λ c. 1 + 2 * c) (sym (u .1 .count))) (hops-received x ring)
         ∙ ap (λ o. planned (bind o (λ tx. bind (receive x ring) (λ z. value (ringTunnel tx z))))) (sym (u .1 .walk));
     few = d .few;
+    three = d .three;
   }

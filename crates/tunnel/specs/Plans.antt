@@ -49,7 +49,7 @@ planIf (some t) = some (planOf t)
 unfoldable pub fromBy : Start → From
 fromBy s = record { stand = at (s .place) (s .adapter) (s .hop); name = s .name }
 
--- document 01's number and values for what is answered: the first n of three starts
+-- document 01's number and values for what is answered: the first n of three starts; any past these are free
 unfoldable pub plannedOutcome : Planned → Outcome (Option Plan)
 plannedOutcome (planned.Tunnel t c w n a b d) = value (some (record { type = t; closed = c; words = w; starts = take n (fromBy a ∷ fromBy b ∷ fromBy d ∷ []) }))
 plannedOutcome planned.Absent = value none
@@ -60,7 +60,13 @@ wordsBy (planned.Tunnel t c w n a b d) = w
 wordsBy planned.Absent = 0
 wordsBy (planned.Refused r) = 0
 
--- For a place that a key has room for, in tables in order and no larger than a survey's, it is the plan of the tunnel that f says of their rows. Else it is free, but that its words are few.
+unfoldable pub pathsBy : Planned → ℕ
+pathsBy (planned.Tunnel t c w n a b d) = n
+pathsBy planned.Absent = 0
+pathsBy (planned.Refused r) = 0
+
+-- For a place that a key has room for, in tables in order and no larger than a survey's, it is the plan of the tunnel that f says of their rows. Else it is free, but that it has at most three paths and 1,048,576 words.
 pub record Plans (en ad ro ma : List ℕ) (p : ℕ) (f : Rows → Outcome (Option Tunnel)) (r : Planned) : Type 0 where
   pub answers : Sized en ro → Tabled en ad ro → p < 65536 → plannedOutcome r ≡ bind (f (rowsOf en ad ro ma)) (λ o. value (planIf o))
   pub few : wordsBy r ≤ 1048576
+  pub three : pathsBy r ≤ 3

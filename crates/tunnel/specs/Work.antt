@@ -16,7 +16,7 @@ use Rattle.path.specs.Put.{Sized}
 use Rattle.receive.specs.Receive.{at, receive}
 use Rattle.receive.specs.Tables.{Said, Said.path, Said.none as nothing, Said.dropped, saidOf}
 use Rattle.tunnel.specs.Tunnels.{leaving, needed}
-use Rattle.tunnel.specs.Plans.{Plan, fromBy, plannedOutcome, wordsBy}
+use Rattle.tunnel.specs.Plans.{Plan, fromBy, plannedOutcome, wordsBy, pathsBy}
 use Rattle.tunnel.specs.declared.Start.{Start}
 use Rattle.tunnel.specs.declared.Planned.{Planned}
 use Rattle.tunnel.specs.declared.Planned.the-variants as planned
@@ -25,6 +25,7 @@ use Rattle.tunnel.specs.declared.Planned.the-variants as planned
 pub record Draws (en ad ro ma : List ℕ) (p : ℕ) (f : Rows → Outcome (Option Plan)) (r : Planned) : Type 0 where
   pub answers : Sized en ro → Tabled en ad ro → p < 65536 → plannedOutcome r ≡ f (rowsOf en ad ro ma)
   pub few : wordsBy r ≤ 1048576
+  pub three : pathsBy r ≤ 3
 
 unfoldable pub startBy : Stand → ℕ → Start
 startBy s n = record { place = s .place; adapter = s .adapter; hop = s .hopId; name = n }

@@ -95,7 +95,7 @@ fn finish(
     second: Start,
     last: Start,
 ) -> Planned
-    requires { ⌜ words ≤ 262143 ⌝ }
+    requires { ⌜ (words ≤ 262143) × (paths ≤ 3) ⌝ }
     ensures { λ r. ⌜ Draws (now (entries .entry)) (now (adapters .entry)) (now (routes .entry)) (now (marks .entry)) (last .place) (λ x. finished x kind words paths first second last) r ⌝ }
 {
     let place = last.place;

@@ -4,8 +4,9 @@ use Rattle.tables.specs.Found.{deviceFound, deviceRow}
 use Rattle.fabric.specs.Tables.{rowsWith}
 use Rattle.fabric.proofs.Laws.{device-fits}
 use Rattle.receive.specs.Work.{laneOutcome}
-use Rattle.receive.proofs.Lanes.{taken-by, left-by, lane-nowhere, lane-left, lane-refused, lane-alone, lane-under}
+use Rattle.receive.proofs.Lanes.{lane-nowhere, lane-left, lane-refused, lane-alone, lane-under}
 use borrow.Author.Needs.{needs}
+use borrow.Author.Tests.{not-true, not-false}
 use Rattle.receive.proofs.lane_of.Statement.{statement}
 use Rattle.receive.proofs.lane_of.Tie as tie
 
@@ -22,12 +23,12 @@ returns : tie.Need-returns
 unfolding laneOutcome rowsWith deviceRow deviceFound
 returns c = record { is = λ k es. lane-nowhere _ _ (ap (deviceFound _) (sym (c .enum-told .given .1)) ∙ c .before .before .find-device .ensures) }
 
-kind-number-requires : tie.Need-kind-number-requires
-kind-number-requires c κs = search needs
+taken-requires : tie.Need-taken-requires
+taken-requires c κs = search needs
 
 returns-2 : tie.Need-returns-2
 unfolding laneOutcome rowsWith deviceRow deviceFound
-returns-2 c = record { is = λ k es. lane-left _ _ _ (ap (deviceFound _) (sym (c .before .before .before .d .given .1)) ∙ c .before .before .before .before .before .find-device .ensures) (left-by _ _ (c .before .kind-number .ensures) (c .if1 .taken)) }
+returns-2 c = record { is = λ k es. lane-left _ _ _ (ap (deviceFound _) (sym (c .before .before .before .d .given .1)) ∙ c .before .before .before .before .before .find-device .ensures) (sym (c .before .taken .ensures _) ∙ not-true (c .before .taken .result) (c .if1 .taken)) }
 
 parent-of-requires : tie.Need-parent-of-requires
 parent-of-requires c κs = search needs
@@ -48,21 +49,21 @@ returns-3 : tie.Need-returns-3
 unfolding laneOutcome rowsWith deviceRow deviceFound
 returns-3 c = record {
   is = λ k es. let at = (ap (deviceFound _) (sym (c .before .before .before .before .before .before .before .d .given .1)) ∙ c .before .before .before .before .before .before .before .before .before .find-device .ensures) in
-      lane-refused _ _ _ at (taken-by _ _ (c .before .before .before .before .before .kind-number .ensures) (c .before .before .before .before .if1 .left)) _ (c .before .before .before .parent-of .ensures .is k (device-fits _ _ _ _ _ k at) es) _ (c .before .refusal .given .1);
+      lane-refused _ _ _ at (sym (c .before .before .before .before .before .taken .ensures _) ∙ not-false (c .before .before .before .before .before .taken .result) (c .before .before .before .before .if1 .left)) _ (c .before .before .before .parent-of .ensures .is k (device-fits _ _ _ _ _ k at) es) _ (c .before .refusal .given .1);
 }
 
 returns-4 : tie.Need-returns-4
 unfolding laneOutcome rowsWith deviceRow deviceFound
 returns-4 c = record {
   is = λ k es. let at = (ap (deviceFound _) (sym (c .before .before .before .before .before .before .d .given .1)) ∙ c .before .before .before .before .before .before .before .before .find-device .ensures) in
-      lane-alone _ _ _ at (taken-by _ _ (c .before .before .before .before .kind-number .ensures) (c .before .before .before .if1 .left)) _ (c .before .before .parent-of .ensures .is k (device-fits _ _ _ _ _ k at) es) (c .enum-told2 .given .1);
+      lane-alone _ _ _ at (sym (c .before .before .before .before .taken .ensures _) ∙ not-false (c .before .before .before .before .taken .result) (c .before .before .before .if1 .left)) _ (c .before .before .parent-of .ensures .is k (device-fits _ _ _ _ _ k at) es) (c .enum-told2 .given .1);
 }
 
 returns-5 : tie.Need-returns-5
 unfolding laneOutcome rowsWith deviceRow deviceFound
 returns-5 c = record {
   is = λ k es. let at = (ap (deviceFound _) (sym (c .before .before .before .before .before .before .before .before .d .given .1)) ∙ c .before .before .before .before .before .before .before .before .before .before .find-device .ensures) in
-      lane-under _ _ _ at (taken-by _ _ (c .before .before .before .before .before .before .kind-number .ensures) (c .before .before .before .before .before .if1 .left)) _ (c .before .before .before .before .parent-of .ensures .is k (device-fits _ _ _ _ _ k at) es) _ (c .before .before .q .given .1) (c .beneath .ensures (c .before .before .before .before .before .before .before .before .before .before .before .before .before .before .args .place) .is k es);
+      lane-under _ _ _ at (sym (c .before .before .before .before .before .before .taken .ensures _) ∙ not-false (c .before .before .before .before .before .before .taken .result) (c .before .before .before .before .before .if1 .left)) _ (c .before .before .before .before .parent-of .ensures .is k (device-fits _ _ _ _ _ k at) es) _ (c .before .before .q .given .1) (c .beneath .ensures (c .before .before .before .before .before .before .before .before .before .before .before .before .before .before .args .place) .is k es);
 }
 
 pub lane-of-spec : {M : Type 1} → statement M
@@ -73,7 +74,7 @@ lane-of-spec =
     enum-known-d
     enum-told
     returns
-    kind-number-requires
+    taken-requires
     returns-2
     parent-of-requires
     enum-known-refusal

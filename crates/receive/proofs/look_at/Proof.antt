@@ -37,14 +37,14 @@ enum-known-refusal c = search needs
 enum-told-2 : tie.Need-enum-told-2
 enum-told-2 c = search needs
 
-add-t23 : tie.Need-add-t23
-add-t23 c = search needs
+add-t22 : tie.Need-add-t22
+add-t22 c = search needs
 
 enum-known-hops : tie.Need-enum-known-hops
 enum-known-hops c = search needs
 
-add-t25 : tie.Need-add-t25
-add-t25 c = search needs
+add-t24 : tie.Need-add-t24
+add-t24 c = search needs
 
 returns-4 : tie.Need-returns-4
 returns-4 c = looked-other _ _ _ _ _ _ _ _ _ (c .before .before .before .before .before .before .before .before .before .next-hop .ensures) (c .before .before .before .before .before .before .before .h .given .1) (c .before .before .before .before .before .if2 .left) (c .before .before .before .before .tally .ensures) _ _ _ _ (c .before .before .hops .given .1) (c .if3 .taken)
@@ -73,9 +73,9 @@ look-at-spec =
     tally-requires
     enum-known-refusal
     enum-told-2
-    add-t23
+    add-t22
     enum-known-hops
-    add-t25
+    add-t24
     returns-4
     returns-5
     returns-6

@@ -4,7 +4,7 @@ use mathlib.Core.Logic.{⊎-elim}
 use native.Mathlib.Omega.{arith}
 use lib.ListN.{length}
 use borrow.Author.Needs.{needs}
-use Rattle.receive.proofs.Search.{Seeking, Among, seek-start, seek-end, seek-refused, seek-lost, seek-passed, seek-at, among-end, among-over, among-on, among-ends}
+use Rattle.receive.proofs.Search.{Seeking, Among, seek-start, seek-end, seek-refused, seek-lost, seek-passed, seek-at, among-end, among-over, among-on, among-fits, among-refused}
 use Rattle.receive.proofs.receive.Statement.{statement}
 use Rattle.receive.proofs.receive.Tie as tie
 
@@ -71,8 +71,14 @@ loop-again c = among-on _ _ _ _ _ (c .before .before .before .before .before .lo
 enum-told-3 : tie.Need-enum-told-3 Inv-loop μ-loop Inv-rx-path μ-rx-path
 enum-told-3 c = search needs
 
-enum-known-r : tie.Need-enum-known-r Inv-loop μ-loop Inv-rx-path μ-rx-path
-enum-known-r c = search needs
+enum-known-refusal-2 : tie.Need-enum-known-refusal-2 Inv-loop μ-loop Inv-rx-path μ-rx-path
+enum-known-refusal-2 c = search needs
+
+returns-3 : tie.Need-returns-3 Inv-loop μ-loop Inv-rx-path μ-rx-path
+returns-3 c = among-refused _ _ _ _ _ (c .before .before .before .before .before .loop .inv) (c .before .before .before .look-at .ensures) _ (c .before .refusal2 .given .1)
+
+enum-known-path : tie.Need-enum-known-path Inv-loop μ-loop Inv-rx-path μ-rx-path
+enum-known-path c = search needs
 
 add-i-2 : tie.Need-add-i-2 Inv-loop μ-loop Inv-rx-path μ-rx-path
 add-i-2 c = omega arith
@@ -83,11 +89,11 @@ rx-path-less-2 c = omega arith
 rx-path-again-2 : tie.Need-rx-path-again-2 Inv-loop μ-loop Inv-rx-path μ-rx-path
 rx-path-again-2 c = ⊎-elim (λ l. among-end _ _ _ _ _ (c .before .loop .inv) (l .left)) (λ w. among-over _ _ _ _ _ (c .before .loop .inv) (w .1 .ensures) (w .3 .given .1)) (c .loop-test .came)
 
-returns-3 : tie.Need-returns-3 Inv-loop μ-loop Inv-rx-path μ-rx-path
-returns-3 c = seek-end _ _ _ _ _ (c .before .rx-path .inv) (c .rx-path-test .left)
-
 returns-4 : tie.Need-returns-4 Inv-loop μ-loop Inv-rx-path μ-rx-path
-returns-4 c = among-ends _ _ _ _ _ (c .before .before .before .before .before .loop .inv) (c .before .before .before .look-at .ensures) _ (c .before .r .given .1)
+returns-4 c = seek-end _ _ _ _ _ (c .before .rx-path .inv) (c .rx-path-test .left)
+
+returns-5 : tie.Need-returns-5 Inv-loop μ-loop Inv-rx-path μ-rx-path
+returns-5 c = among-fits _ _ _ _ _ (c .before .before .before .before .before .loop .inv) (c .before .before .before .look-at .ensures) _ (c .before .path .given .1)
 
 pub receive-spec : {M : Type 1} → statement M
 receive-spec =
@@ -114,9 +120,11 @@ receive-spec =
     loop-less
     loop-again
     enum-told-3
-    enum-known-r
+    enum-known-refusal-2
+    returns-3
+    enum-known-path
     add-i-2
     rx-path-less-2
     rx-path-again-2
-    returns-3
-    returns-4)
+    returns-4
+    returns-5)

@@ -43,7 +43,7 @@ returns-2 c = finish-absent _ _ _ _ _ _ _ _ _ _ _ (c .before .before .tally .ens
 -- src/lib.rt:86:1
 returns-3 : tie.Need-returns-3
 returns-3 c = let m = c .before .before .before .before .before in
-    finish-path _ _ _ _ _ _ _ _ _ _ _ (m .tally .ensures) _ _ _ _ _ _ (c .before .before .before .hops .given .1) (c .before .same .ensures) (c .path-words .ensures) (m .before .before .before .before .before .pre)
+    finish-path _ _ _ _ _ _ _ _ _ _ _ (m .tally .ensures) _ _ _ _ _ _ (c .before .before .before .hops .given .1) (c .before .same .ensures) (c .path-words .ensures) (m .before .before .before .before .before .pre .0) (m .before .before .before .before .before .pre .1)
 
 pub finish-spec : {M : Type 1} → statement M
 finish-spec =
