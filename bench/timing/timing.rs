@@ -1,6 +1,8 @@
-//! Times loading: the proved `acceptance::accepted` on survey words, and the Rust on the same devices as dumps; then walks (walking.rs).
+//! Times loading: the proved `acceptance::accepted` on survey words, and the Rust on the same devices as dumps; then walks (walking.rs)
+//! and discovery (discovering.rs).
 //! bench/run builds this as a second program of the oracle's crate. ../README.md says what the columns are.
 
+mod discovering;
 mod walking;
 
 use std::fmt::Write as _;
@@ -43,7 +45,10 @@ struct Adapter {
     paths: Paths,
 }
 
+/// A device: a USB4 router, or an xdomain, of which nothing is read.
 struct Router {
+    route: u64,
+    xdomain: bool,
     registers: Vec<Register>,
     adapters: Vec<Adapter>,
 }
@@ -56,10 +61,14 @@ fn capability(at: u32, cap: u32, vs: u32, count: u32) -> Vec<Register> {
 }
 
 /// ROUTER_CS_0 and on; ROUTER_CS_1 has Upstream Adapter and Max Adapter.
-fn router(count: u32, upstream: u32, adapters: Vec<Adapter>) -> Router {
+fn router(route: u64, count: u32, upstream: u32, adapters: Vec<Adapter>) -> Router {
     let mut registers = capability(0, 0, 0, count);
     registers[1].value = (adapters.len() as u32) << 14 | upstream << 8;
-    Router { registers, adapters }
+    Router { route, xdomain: false, registers, adapters }
+}
+
+fn xdomain(route: u64) -> Router {
+    Router { route, xdomain: true, registers: Vec::new(), adapters: Vec::new() }
 }
 
 /// ADP_CS_0 and on, with the adapter's type in ADP_CS_2 and Max Input HopID in ADP_CS_5 if that is there.
@@ -108,7 +117,7 @@ fn kernel(words: usize) -> Vec<Router> {
         registers[9].value = 1 << 31;
         Adapter { registers, paths: Paths::Read(entry(8, true).to_vec()) }
     };
-    (0..words / 1024).map(|_| router(26, 1, vec![lane0(), lane1(), pcie(PCIE_UP), pcie(PCIE_DOWN)])).collect()
+    (0..words as u64 / 1024).map(|i| router(i, 26, 1, vec![lane0(), lane1(), pcie(PCIE_UP), pcie(PCIE_DOWN)])).collect()
 }
 
 /// (b) Four lanes with long path dumps: first words alone, and all of them valid.
@@ -118,7 +127,7 @@ fn entries(words: usize) -> Vec<Router> {
         registers: [basic(9, LANE, 7 + each), lane(0x10)].concat(),
         paths: Paths::Read((8..8 + each).map(|h| path(h, true)).collect()),
     };
-    vec![router(2, 1, vec![lane(), lane(), lane(), lane()])]
+    vec![router(0, 2, 1, vec![lane(), lane(), lane(), lane()])]
 }
 
 /// (c) Four lanes with vendor capabilities of 64 nameless registers each before the lane capability, and no ADP_CS_5.
@@ -129,7 +138,7 @@ fn nameless(words: usize) -> Vec<Router> {
         registers: [basic(5, LANE, 0), (0..each).map(vendor).collect(), lane(0x10 + each)].concat(),
         paths: Paths::NotRead,
     };
-    vec![router(2, 1, vec![lane(), lane(), lane(), lane()])]
+    vec![router(0, 2, 1, vec![lane(), lane(), lane(), lane()])]
 }
 
 /// Two routers, one below lane 1 of the other: a walk from there, at HopID 8, goes to and fro for so many hops, and ends at a PCIe adapter.
@@ -140,15 +149,16 @@ fn steps(hops: u32) -> Vec<Router> {
         Adapter { registers: basic(3, LANE, 0), paths: Paths::Read(dump) }
     };
     let pcie = |kind| Adapter { registers: basic(3, kind, 0), paths: Paths::NotRead };
-    vec![router(2, 2, vec![lane(0), pcie(PCIE_DOWN)]), router(2, 1, vec![lane(1), pcie(PCIE_UP)])]
+    vec![router(0, 2, 2, vec![lane(0), pcie(PCIE_DOWN)]), router(1, 2, 1, vec![lane(1), pcie(PCIE_UP)])]
 }
 
-/// The survey's words: every device is a USB4 router whose registers were read.
+/// The survey's words: routers' registers were read.
 fn words(routers: &[Router]) -> Vec<u32> {
     let group = |space: u32, r: &Register| [5 << 28 | space << 16 | r.offset, r.relative << 16 | r.cap, r.vs, r.value];
     let mut out = Vec::new();
-    for (place, d) in routers.iter().enumerate() {
-        out.extend([3 << 28 | 1 << 24 | 3, 0, place as u32, 0]);
+    for d in routers {
+        let head = if d.xdomain { 2 << 24 | 1 } else { 1 << 24 | 3 };
+        out.extend([3 << 28 | head, 0, d.route as u32, 0]);
         out.extend(d.registers.iter().flat_map(|r| group(0, r)));
         for (i, a) in d.adapters.iter().enumerate() {
             let (mark, dump) = match &a.paths {
@@ -184,7 +194,7 @@ fn dump_file(path: PathBuf, registers: &[Register], is_path: bool) -> PathBuf {
 /// Writes the dumps below a folder of a survey's own; the names of the dump files.
 fn dumps(name: &str, routers: &[Router]) -> Vec<PathBuf> {
     let mut files = Vec::new();
-    for (place, d) in routers.iter().enumerate() {
+    for (place, d) in routers.iter().enumerate().filter(|(_, d)| !d.xdomain) {
         let top = Path::new("thunderbolt").join(format!("{name}-{place}"));
         files.push(dump_file(top.join("regs"), &d.registers, false));
         for (i, a) in d.adapters.iter().enumerate() {
@@ -198,12 +208,12 @@ fn dumps(name: &str, routers: &[Router]) -> Vec<PathBuf> {
     files
 }
 
-fn device(name: &str, place: usize) -> Device {
+fn device(name: &str, place: usize, d: &Router) -> Device {
     Device::new(
         format!("{name}-{place}"),
-        Kind::Router,
+        if d.xdomain { Kind::Xdomain } else { Kind::Router },
         0,
-        place as u64,
+        d.route,
         0,
         0,
         0,
@@ -234,7 +244,10 @@ fn device(name: &str, place: usize) -> Device {
 
 /// The Rust's own loading of one device.
 fn load_device(name: &str, place: usize, d: &Router) -> Device {
-    let mut device = device(name, place);
+    let mut device = device(name, place, d);
+    if d.xdomain {
+        return device;
+    }
     device.read_registers().unwrap();
     device.read_adapters().unwrap();
     for (i, a) in d.adapters.iter().enumerate() {
@@ -325,4 +338,5 @@ fn main() {
         }
     }
     walking::run(rounds);
+    discovering::run(rounds);
 }

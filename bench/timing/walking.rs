@@ -48,15 +48,15 @@ const LENGTHS: [usize; 4] = [1, 10, 100, 1000];
 
 // ---- both sides ---------------------------------------------------------------------------
 
-struct Tables {
-    entries: Vec<u64>,
-    adapters: Vec<u64>,
-    routes: Vec<u64>,
-    marks: Vec<u64>,
+pub struct Tables {
+    pub entries: Vec<u64>,
+    pub adapters: Vec<u64>,
+    pub routes: Vec<u64>,
+    pub marks: Vec<u64>,
 }
 
 impl Tables {
-    fn of(survey: &[u32]) -> Self {
+    pub fn of(survey: &[u32]) -> Self {
         let (p, n) = (survey.as_ptr(), survey.len());
         let [mut entries, mut routes, mut marks] = [(); 3].map(|_| vec![0; 4096]);
         let mut adapters = vec![0; 16384];
