@@ -184,15 +184,9 @@ pub fn receive(
     let mut i: usize = 0;
     'rx_path: while i < routes.len() {
         match lane_of(adapters, routes, marks, i) {
-            LaneFound::Refused(refusal) => {
-                return Received::Refused(refusal);
-            }
-            LaneFound::Dropped => {
-                return Received::Lost;
-            }
-            LaneFound::Passed => {
-                i += 1;
-            }
+            LaneFound::Refused(refusal) => return Received::Refused(refusal),
+            LaneFound::Dropped => return Received::Lost,
+            LaneFound::Passed => i += 1,
             LaneFound::At {
                 place,
                 adapter,
@@ -212,15 +206,9 @@ pub fn receive(
                         most,
                         ring,
                     ) {
-                        Step::On(next) => {
-                            hop = next;
-                        }
-                        Step::Over => {
-                            break;
-                        }
-                        Step::Refused(refusal) => {
-                            return Received::Refused(refusal);
-                        }
+                        Step::On(next) => hop = next,
+                        Step::Over => break,
+                        Step::Refused(refusal) => return Received::Refused(refusal),
                         Step::Fits(path) => {
                             found = path;
                             break 'rx_path;
