@@ -1,1 +1,7 @@
-pub mod Example
+pub mod Skipping
+pub mod Sections
+pub mod Marking
+pub mod Dumps
+pub mod Bodies
+pub mod Counting
+pub mod Answers

@@ -1,0 +1,3 @@
+mod Answering
+mod Paging
+mod Trying

@@ -1,0 +1,100 @@
+-- Laws on what the markers after a place say. Assumes nothing.
+use Prim.Native.Nat.{ℕ, _+_, _-_, _*_, _/_, _%_, _<_, _≤_}
+use native.Mathlib.Omega.{arith}
+use mathlib.Core.Path.{_≡_, refl, _∙_, ap, sym}
+use mathlib.Core.Bool.{Bool, true, false, cond}
+use mathlib.Core.List.{List, [], _∷_, _++_}
+use lib.Dec.{eqb}
+use lib.ListN.{length, take, drop, getD, set, drop-of-length-le}
+use lib.Seq.{sets-eq}
+use borrow.Author.Tests.{eq-eqb, ne-eqb}
+use Rattle.scan.specs.Scan.{lines, isLineFeed, placeFrom}
+use Rattle.dump.specs.Dump.{recordsOf as dumpRecords}
+use Rattle.markers.specs.Markers.{Marker, markerOf}
+use Rattle.grammar.specs.Grammar.{itemsOf}
+use Rattle.dump.proofs.Groups.{put-four}
+use Rattle.text.specs.Text.{Section, recordsOf, sectionsOf, markNumber, next, past, bit, deviceHead, pathMark, adapterHead, deviceWords, markerWords, surveyWords}
+use Rattle.text.specs.Work.{sectionsFrom, recordsFrom, partOf, Stands, Skipped, NextLine, PastMark, PutAt, bodyWords}
+use Rattle.text.proofs.Skipping.{section-here, sections-end}
+
+-- no marker at the end
+pub next-end : (t : List ℕ) (at : ℕ) → length t ≤ at → 0 ≡ next (sectionsFrom t at)
+unfolding next
+next-end t at h = sym (ap next (sections-end t at h))
+
+-- the line after another
+pub next-line-on : (t : List ℕ) (e : ℕ) → e < length t → NextLine t e (e + 1)
+next-line-on t e h = record { above = omega arith; within = omega arith; same = refl }
+
+pub next-line-end : (t : List ℕ) (e : ℕ) → length t ≤ e → e ≤ length t → NextLine t e e
+next-line-end t e h k = record { above = omega arith; within = k; same = drop-of-length-le t {i = e + 1} (omega arith) ∙ sym (drop-of-length-le t {i = e} h) }
+
+-- a place that has the mark, or hasn't
+past-other : (k n : ℕ) (ss : List Section) → n ≡ next ss → (n ≡ k → ⊥) → past k ss ≡ ss
+unfolding past next
+past-other k n [] e h = refl
+past-other k n (s ∷ ss) e h = simp (ne-eqb (markNumber (s .head)) k (λ q. h (e ∙ q)))
+
+past-same : (k n : ℕ) (s : Section) (ss : List Section) → n ≡ next (s ∷ ss) → n ≡ k → past k (s ∷ ss) ≡ ss
+unfolding past next
+past-same k n s ss e h = simp (eq-eqb (markNumber (s .head)) k (sym e ∙ h))
+
+pub stays : (t : List ℕ) (at k n : ℕ) → Stands t at → n ≡ next (sectionsFrom t at) → (n ≡ k → ⊥) → PastMark t at k at
+stays t at k n s e h = record { sections = sym (past-other k n (sectionsFrom t at) e h); stands = s }
+
+pub stays-end : (t : List ℕ) (at k : ℕ) → Stands t at → length t ≤ at → PastMark t at k at
+unfolding past
+stays-end t at k s h = record { sections = sections-end t at h ∙ sym (ap (λ ss. past k ss) (sections-end t at h)); stands = s }
+
+-- the marker line at a place, the line after it, and the next marker
+module _ (t : List ℕ) (at e from r : ℕ) (ends : e ≡ placeFrom isLineFeed t at) (here : at < length t) (mark : getD t at 0 ≡ 64) (after : NextLine t e from) (skips : Skipped t from r) where
+  sections-next : sectionsFrom t (e + 1) ≡ sectionsFrom t r
+  unfolding sectionsFrom
+  sections-next = ap (λ d. sectionsOf (itemsOf d)) (after .same) ∙ skips .sections
+
+  records-next : recordsFrom t (e + 1) ≡ dumpRecords (lines (partOf t from r))
+  unfolding recordsFrom
+  records-next = ap (λ d. recordsOf (itemsOf d)) (after .same) ∙ skips .records
+
+  pub section-at : sectionsFrom t at ≡ record { head = markerOf (take (e - at) (drop at t)); records = dumpRecords (lines (partOf t from r)) } ∷ sectionsFrom t r
+  section-at = section-here t at e ends here mark ∙ ap (λ rs. record { head = markerOf (take (e - at) (drop at t)); records = rs } ∷ sectionsFrom t (e + 1)) records-next ∙ ap (λ ss. record { head = markerOf (take (e - at) (drop at t)); records = dumpRecords (lines (partOf t from r)) } ∷ ss) sections-next
+
+  pub goes-past : (k n : ℕ) → n ≡ next (sectionsFrom t at) → n ≡ k → PastMark t at k r
+  goes-past k n q h = record { sections = sym (ap (λ ss. past k ss) section-at ∙ past-same k n _ _ (q ∙ ap next section-at) h); stands = skips .stands }
+
+  -- the words from a marker on
+  pub words-at : surveyWords (sectionsFrom t at) ≡ bodyWords (take (e - at) (drop at t)) (partOf t from r) (sectionsFrom t r) ++ surveyWords (sectionsFrom t r)
+  unfolding surveyWords bodyWords
+  words-at = ap surveyWords section-at
+
+-- what the marker at a place says
+pub mark-here : (t : List ℕ) (at e : ℕ) → e ≡ placeFrom isLineFeed t at → at < length t → Stands t at → (m : Marker) → m ≡ markerOf (take (e - at) (drop at t)) → markNumber m ≡ next (sectionsFrom t at)
+unfolding next
+mark-here t at e ends here s m q = ap markNumber q ∙ sym (ap next (section-here t at e ends here (s here)))
+
+pub no-words : (t : List ℕ) (at : ℕ) → length t ≤ at → surveyWords (sectionsFrom t at) ≡ []
+unfolding surveyWords
+no-words t at h = ap surveyWords (sections-end t at h)
+
+-- heads by their marks
+pub device-is : (kind a b : ℕ) (ss ss′ : List Section) → ss′ ≡ past 1 ss → a ≡ 1 * bit (eqb (next ss) 1) → b ≡ 2 * bit (eqb (next ss′) 2) → 805306368 + kind * 16777216 + b + a ≡ deviceHead kind ss
+unfolding deviceHead
+device-is kind a b ss ss′ p ea eb = omega (arith, ea, eb ∙ ap (λ q. 2 * bit (eqb (next q) 2)) p)
+
+pub adapter-is : (n a b : ℕ) (ss ss′ : List Section) → ss′ ≡ past 2 ss → a ≡ 256 * bit (eqb (next ss) 2) → b ≡ pathMark (next ss′) → 1073741824 + 512 * b + a + n ≡ adapterHead n ss
+unfolding adapterHead
+adapter-is n a b ss ss′ p ea eb = omega (arith, ea, eb ∙ ap (λ q. pathMark (next q)) p)
+
+pub bit-le : (b : Bool) → bit b ≤ 1
+unfolding bit
+bit-le true = omega arith
+bit-le false = omega arith
+
+-- a device's words, put by four stores
+pub put-device : (kind d r k head : ℕ) (ss : List Section) (out : List ℕ) → k + 4 ≤ length out → head ≡ deviceHead kind ss → PutAt (deviceWords kind d r ss) k out (k + 4) (set (set (set (set out k head) (k + 1) d) (k + 2) (r % 4294967296)) (k + 3) (r / 4294967296))
+unfolding deviceWords
+put-device kind d r k head ss out h e = record { next = refl; written = put-four out k head d (r % 4294967296) (r / 4294967296) h ∙ ap (λ x. take k out ++ (x ∷ d ∷ (r % 4294967296) ∷ (r / 4294967296) ∷ []) ++ drop (k + 4) out) e }
+
+-- an adapter's word, put by one
+pub put-adapter : (n k head : ℕ) (ss : List Section) (out : List ℕ) → k < length out → head ≡ adapterHead n ss → PutAt (adapterHead n ss ∷ []) k out (k + 1) (set out k head)
+put-adapter n k head ss out h e = record { next = refl; written = sets-eq (head ∷ []) out k (omega arith) ∙ ap (λ x. take k out ++ (x ∷ []) ++ drop (k + 1) out) e }

@@ -1,0 +1,25 @@
+use native.Mathlib.Omega.{arith}
+use Rattle.text.specs.Text.{pathMark}
+use borrow.Author.Tests.{ne-eqb}
+use Rattle.text.proofs.path_mark.Statement.{statement}
+use Rattle.text.proofs.path_mark.Tie as tie
+use Rattle.text.proofs.path_mark.Reads as reads
+use Rattle.text.proofs.path_mark.Lts as lts
+
+-- src/lib.rt:108:9
+returns : tie.Need-returns
+unfolding pathMark
+returns c = (simp (c .if1 .taken), omega arith)
+
+-- src/lib.rt:111:9
+returns-2 : tie.Need-returns-2
+unfolding pathMark
+returns-2 c = (simp (c .if2 .taken), omega arith)
+
+-- src/lib.rt:104:1
+returns-3 : tie.Need-returns-3
+unfolding pathMark
+returns-3 c = (simp (ne-eqb (c .before .before .args .mark) 3 (c .before .if1 .left), ne-eqb (c .before .before .args .mark) 4 (c .if2 .left)), omega arith)
+
+pub path-mark-spec : {M : Type 1} → statement M
+path-mark-spec = tie.close (tie.spec returns returns-2 returns-3)

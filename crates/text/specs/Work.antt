@@ -1,0 +1,70 @@
+-- For the contracts of private functions only: sections by their places in a text. No promise to a caller rests on these. Assumes nothing.
+use Prim.Native.Nat.{ℕ, _+_, _-_, _*_, _%_, _≤_, _<_}
+use mathlib.Core.Path.{_≡_}
+use mathlib.Core.List.{List, [], _∷_, _++_, map}
+use lib.ListN.{length, take, drop, getD}
+use Rattle.scan.specs.Scan.{lines}
+use Rattle.register.specs.declared.Register.{Register}
+use Rattle.groups.specs.Group.{words}
+use Rattle.dump.specs.Sort.{sort}
+use Rattle.dump.specs.Dump.{offset, recordsOf as dumpRecords}
+use Rattle.markers.specs.Markers.{markerOf}
+use Rattle.grammar.specs.Grammar.{itemsOf}
+use Rattle.text.specs.Text.{Section, recordsOf, sectionsOf, past, pathGroup, markerWords}
+
+unfoldable pub sectionsFrom : List ℕ → ℕ → List Section
+sectionsFrom t i = sectionsOf (itemsOf (drop i t))
+
+unfoldable pub recordsFrom : List ℕ → ℕ → List Register
+recordsFrom t i = recordsOf (itemsOf (drop i t))
+
+abbrev pub partOf : List ℕ → ℕ → ℕ → List ℕ
+partOf t i j = take (j - i) (drop i t)
+
+-- a marker line stands at i, or the end
+abbrev pub Stands : List ℕ → ℕ → Type 0
+Stands t i = i < length t → getD t i 0 ≡ 64
+
+-- no byte is above 127
+abbrev pub Low : List ℕ → Type 0
+Low t = (i : ℕ) → i < length t → getD t i 0 ≤ 127
+
+-- from one place to the next marker, or the end, there are lines that are no markers
+pub record Skipped (t : List ℕ) (from r : ℕ) : Type 0 where
+  pub above : from ≤ r
+  pub within : r ≤ length t
+  pub sections : sectionsFrom t from ≡ sectionsFrom t r
+  pub records : recordsFrom t from ≡ dumpRecords (lines (partOf t from r))
+  pub stands : Stands t r
+
+-- the line after one that ends at e starts at r
+pub record NextLine (t : List ℕ) (e r : ℕ) : Type 0 where
+  pub above : e ≤ r
+  pub within : r ≤ length t
+  pub same : drop (e + 1) t ≡ drop r t
+
+-- the marker after the one at a place, if that has mark k
+pub record PastMark (t : List ℕ) (at k r : ℕ) : Type 0 where
+  pub sections : sectionsFrom t r ≡ past k (sectionsFrom t at)
+  pub stands : Stands t r
+
+-- the words of a path dump
+unfoldable pub pathWords : List ℕ → List ℕ
+pathWords s = words (map pathGroup (sort offset (dumpRecords (lines s))))
+
+-- the words of a marker line, the lines after it, and the sections after these
+unfoldable pub bodyWords : List ℕ → List ℕ → List Section → List ℕ
+bodyWords line body ss = markerWords (markerOf line) (dumpRecords (lines body)) ss
+
+-- words put at a place, and the next place
+pub record PutAt (ws : List ℕ) (k : ℕ) (out : List ℕ) (r : ℕ) (out′ : List ℕ) : Type 0 where
+  pub next : r ≡ k + length ws
+  pub written : out′ ≡ take k out ++ ws ++ drop r out
+
+-- groups whose heads get bit 16, their offsets kept
+unfoldable pub marked : List ℕ → List ℕ
+marked [] = []
+marked (a ∷ []) = a ∷ []
+marked (a ∷ b ∷ []) = a ∷ b ∷ []
+marked (a ∷ b ∷ c ∷ []) = a ∷ b ∷ c ∷ []
+marked (a ∷ b ∷ c ∷ d ∷ s) = (0x50010000 + a % 65536) ∷ b ∷ c ∷ d ∷ marked s
