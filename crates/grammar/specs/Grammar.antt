@@ -1,6 +1,6 @@
 -- Document 01, the program's text: what a line is, and where markers and records may stand. 2 for the text's length, then 1, then 4. Assumes nothing.
 use Prim.Native.Nat.{ℕ, _+_}
-use mathlib.Core.Bool.{Bool, true, false, cond}
+use mathlib.Core.Bool.{true, false, cond}
 use mathlib.Core.List.{List, [], _∷_, map}
 use lib.Dec.{ltb}
 use lib.ListN.{length}

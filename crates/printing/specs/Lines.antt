@@ -1,7 +1,7 @@
 -- Document 01, what the program prints: the lines of result words. Assumes nothing.
 use Prim.Native.Nat.{ℕ, _+_, _/_, _%_}
 use mathlib.Core.Bool.{Bool, cond}
-use mathlib.Core.List.{List, [], _∷_, _++_}
+use mathlib.Core.List.{List, [], _++_}
 use lib.Dec.{eqb}
 use lib.ListN.{getD}
 use Rattle.util.specs.Text.{bytesOf}

@@ -1,11 +1,11 @@
 -- The outcome of the text reader, answer by answer. Assumes nothing.
 use Prim.Native.Nat.{ℕ, _≤_, _<_}
 use native.Mathlib.Omega.{arith}
-use mathlib.Core.Path.{_≡_, refl, _∙_, ap, sym}
+use mathlib.Core.Path.{_≡_, _∙_, ap, sym}
 use mathlib.Core.List.{List, [], _∷_, _++_}
 use lib.ListN.{length, drop}
 use borrow.Author.Tests.{lt-ltb, le-ltb}
-use Rattle.refusal.specs.Outcome.{Outcome, refused, value, bind}
+use Rattle.refusal.specs.Outcome.{refused, value, bind}
 use Rattle.grammar.specs.Grammar.{itemsOf, checkAnswer}
 use Rattle.text.specs.Text.{sectionsOf, surveyWords, surveyOf, inRoom, outputBy, textOutcome, TextDone}
 use Rattle.text.specs.Work.{sectionsFrom}

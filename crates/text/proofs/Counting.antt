@@ -1,18 +1,18 @@
 -- The words that the grammar counts are the words that are written. Assumes nothing.
-use Prim.Native.Nat.{ℕ, _+_, _*_, _≤_, _<_}
+use Prim.Native.Nat.{ℕ, _+_, _*_, _≤_}
 use native.Mathlib.Omega.{arith}
-use mathlib.Core.Path.{_≡_, refl, _∙_, ap, sym}
+use mathlib.Core.Path.{_≡_, refl, ap}
 use mathlib.Core.Bool.{Bool, true, false, cond}
-use mathlib.Core.List.{List, [], _∷_, _++_}
-use lib.Dec.{ltb, leb}
-use lib.ListN.{length, drop, length-append}
-use borrow.Author.Tests.{lt-ltb, le-ltb, ltb-false}
+use mathlib.Core.List.{List, [], _∷_}
+use lib.Dec.{ltb}
+use lib.ListN.{length, length-append}
+use borrow.Author.Tests.{ltb-false}
 use Rattle.refusal.specs.Outcome.{Outcome, refused, value, bind}
 use Rattle.scan.specs.Scan.{isHigh, before, placeFrom}
 use Rattle.register.specs.declared.Register.{Register}
 use Rattle.groups.specs.Group.{groupOf}
 use Rattle.markers.specs.Markers.{Marker, Marker.router, Marker.xdomain, Marker.usb4, Marker.regs, Marker.adapter, Marker.paths, Marker.noPaths, Marker.bad}
-use Rattle.grammar.specs.Grammar.{Item, Item.marker, Item.record′, Item.other, toUsb4, toRegs, toAdapter, toPaths, stepOf, inDump, itemStep, markerSize, itemSize, checkBy, checkFrom, mostBytes, mostWords, itemsOf, inLimit, checkAnswer, checkOutcome}
+use Rattle.grammar.specs.Grammar.{Item, Item.marker, Item.record′, Item.other, toUsb4, toRegs, toAdapter, toPaths, stepOf, inDump, itemStep, markerSize, itemSize, checkBy, checkFrom, mostBytes, mostWords, itemsOf, inLimit, checkAnswer}
 use Rattle.grammar.specs.declared.Under.{Under}
 use Rattle.grammar.specs.declared.Under.the-variants as under
 use Rattle.grammar.specs.declared.Step.{Step}

@@ -1,5 +1,5 @@
 -- Laws on groups that get bit 16. Assumes nothing.
-use Prim.Native.Nat.{ℕ, suc, _+_, _-_, _*_, _%_, _<_, _≤_}
+use Prim.Native.Nat.{ℕ, _+_, _*_, _%_, _<_, _≤_}
 use native.Mathlib.Omega.{arith}
 use native.Mathlib.Nat.{add-zero}
 use mathlib.Core.Path.{_≡_, refl, _∙_, ap, sym}
@@ -8,13 +8,13 @@ use mathlib.Core.List.{List, [], _∷_, _++_, map, append-nil, append-assoc}
 use lib.Dec.{leb, ltb, eqb}
 use lib.ListN.{length, take, drop, getD, set, length-append, length-drop, length-set, take-append-drop, drop-of-length-le}
 use lib.Seq.{set-at, length-take-le, take-all, take-at, drop-at, drop-drop, getD-drop}
-use Rattle.util.specs.Number.{hexNumber, decimalNumber}
+use Rattle.util.specs.Number.{hexNumber}
 use Rattle.util.specs.declared.Number.{Number}
 use Rattle.util.specs.declared.Number.the-variants as number
 use Rattle.util.proofs.Laws.{hex-le}
 use Rattle.scan.specs.Scan.{tokens, lines}
 use Rattle.register.specs.declared.Skip.the-variants.{Comment, Few}
-use Rattle.register.specs.Line.{max16, max32, isComment, withToken, registerOf, fourTokens, fiveTokens, byTokens, meaning}
+use Rattle.register.specs.Line.{max16, isComment, withToken, registerOf, fourTokens, fiveTokens, byTokens, meaning}
 use Rattle.register.specs.declared.Register.{Register}
 use Rattle.register.specs.declared.Met.{Met}
 use Rattle.register.specs.declared.Met.the-variants as met

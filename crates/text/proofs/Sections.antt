@@ -2,7 +2,7 @@
 use Prim.Native.Nat.{ℕ, _+_, _-_, _*_, _/_, _%_, _<_, _≤_}
 use native.Mathlib.Omega.{arith}
 use mathlib.Core.Path.{_≡_, refl, _∙_, ap, sym}
-use mathlib.Core.Bool.{Bool, true, false, cond}
+use mathlib.Core.Bool.{Bool, true, false}
 use mathlib.Core.List.{List, [], _∷_, _++_}
 use lib.Dec.{eqb}
 use lib.ListN.{length, take, drop, getD, set, drop-of-length-le}
@@ -13,7 +13,7 @@ use Rattle.dump.specs.Dump.{recordsOf as dumpRecords}
 use Rattle.markers.specs.Markers.{Marker, markerOf}
 use Rattle.grammar.specs.Grammar.{itemsOf}
 use Rattle.dump.proofs.Groups.{put-four}
-use Rattle.text.specs.Text.{Section, recordsOf, sectionsOf, markNumber, next, past, bit, deviceHead, pathMark, adapterHead, deviceWords, markerWords, surveyWords}
+use Rattle.text.specs.Text.{Section, recordsOf, sectionsOf, markNumber, next, past, bit, deviceHead, pathMark, adapterHead, deviceWords, surveyWords}
 use Rattle.text.specs.Work.{sectionsFrom, recordsFrom, partOf, Stands, Skipped, NextLine, PastMark, PutAt, bodyWords}
 use Rattle.text.proofs.Skipping.{section-here, sections-end}
 

@@ -1,16 +1,15 @@
 -- Laws on lines that are no markers, and on the sections of a text. Assumes nothing.
-use Prim.Native.Nat.{ℕ, zero, suc, _+_, _-_, _<_, _≤_}
+use Prim.Native.Nat.{ℕ, suc, _+_, _-_, _<_, _≤_}
 use native.Mathlib.Omega.{arith}
 use native.Mathlib.Nat.{add-zero}
-use native.Mathlib.Numerals.{add-one}
 use native.Mathlib.Decide.{decLt}
 use mathlib.Core.Path.{_≡_, refl, _∙_, ap, sym}
 use mathlib.Core.Bool.{Bool, true, false, cond}
-use mathlib.Core.List.{List, [], _∷_, _++_, map, append-assoc, append-nil}
+use mathlib.Core.List.{List, [], _∷_, _++_, append-assoc, append-nil}
 use lib.Dec.{eqb}
-use lib.ListN.{length, take, drop, getD, drop-of-length-le, length-drop, length-append}
+use lib.ListN.{length, take, drop, getD, length-drop, length-append}
 use lib.Seq.{take-all, take-add, take-suc, take-at, drop-append-add, drop-drop, getD-take, getD-drop, length-take-le}
-use borrow.Author.Tests.{eq-eqb, ne-eqb, eqb-true}
+use borrow.Author.Tests.{ne-eqb, eqb-true}
 use Rattle.scan.specs.Scan.{lines, isLineFeed, before, placeFrom}
 use Rattle.scan.proofs.Laws.{line-at, lines-end, place-above, place-within, place-on}
 use Rattle.register.specs.Line.{meaning}
@@ -21,8 +20,8 @@ use Rattle.dump.specs.Dump.{withRecord, recordsOf as dumpRecords}
 use Rattle.markers.specs.Markers.{isMarker, markerOf}
 use Rattle.grammar.specs.Grammar.{Item, Item.marker, itemBy, itemOf, itemsOf}
 use Rattle.grammar.proofs.Laws.{items-at, items-end}
-use Rattle.text.specs.Text.{Section, recordsOf, sectionsOf}
-use Rattle.text.specs.Work.{sectionsFrom, recordsFrom, partOf, Stands, Skipped}
+use Rattle.text.specs.Text.{recordsOf, sectionsOf}
+use Rattle.text.specs.Work.{sectionsFrom, recordsFrom, partOf, Skipped}
 
 pub sections-end : (t : List ℕ) (at : ℕ) → length t ≤ at → sectionsFrom t at ≡ []
 unfolding sectionsFrom sectionsOf

@@ -10,11 +10,6 @@ use mathlib.Core.Path.{_≡_, refl, _∙_}
 use borrow.Author.Needs.{needs}
 use Rattle.load.proofs.fill.Statement.{statement}
 use Rattle.load.proofs.fill.Tie as tie
-use Rattle.load.proofs.fill.Reads as reads
-use Rattle.load.proofs.fill.Lts as lts
-use Rattle.layout.proofs.word_at.Reads as word-at-reads
-use Rattle.listing.proofs.next_head.Reads as next-head-reads
-use Rattle.load.proofs.load_device.Reads as load-device-reads
 
 abbrev Inv-loop : tie.InvT-loop
 Inv-loop descriptions survey entries₀ adapters₀ routes₀ marks₀ n₀ m₀ place₀ i₀ entries adapters routes marks n m place i =

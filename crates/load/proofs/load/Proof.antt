@@ -3,9 +3,6 @@ use Rattle.load.proofs.Joining.{loaded-into, usable}
 use borrow.Author.Needs.{needs}
 use Rattle.load.proofs.load.Statement.{statement}
 use Rattle.load.proofs.load.Tie as tie
-use Rattle.load.proofs.load.Reads as reads
-use Rattle.load.proofs.load.Lts as lts
-use Rattle.load.proofs.load_into.Reads as load-into-reads
 
 -- src/lib.rt:681:9
 slice-aggregate-load-into : tie.Need-slice-aggregate-load-into

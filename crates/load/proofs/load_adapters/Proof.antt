@@ -11,10 +11,6 @@ use native.Mathlib.Omega.{arith}
 use mathlib.Core.Path.{_≡_, refl, _∙_}
 use Rattle.load.proofs.load_adapters.Statement.{statement}
 use Rattle.load.proofs.load_adapters.Tie as tie
-use Rattle.load.proofs.load_adapters.Reads as reads
-use Rattle.load.proofs.load_adapters.Lts as lts
-use Rattle.listing.proofs.next_head.Reads as next-head-reads
-use Rattle.load.proofs.load_adapter.Reads as load-adapter-reads
 
 abbrev Inv-loop : tie.InvT-loop
 Inv-loop descriptions survey from usb4 place entries₀ n adapters₀ m count₀ size₀ i₀ entries adapters count size i =

@@ -10,15 +10,6 @@ use mathlib.Core.Path.{_≡_, _∙_, ap}
 use borrow.Author.Needs.{needs}
 use Rattle.load.proofs.load_device.Statement.{statement}
 use Rattle.load.proofs.load_device.Tie as tie
-use Rattle.load.proofs.load_device.Reads as reads
-use Rattle.load.proofs.load_device.Lts as lts
-use Rattle.layout.proofs.word_at.Reads as word-at-reads
-use Rattle.listing.proofs.next_register.Reads as next-register-reads
-use Rattle.load.proofs.fits_device.Reads as fits-device-reads
-use Rattle.load.proofs.load_adapters.Reads as load-adapters-reads
-use Rattle.load.proofs.mark_word.Reads as mark-word-reads
-use Rattle.load.proofs.router_cs_1.Reads as router-cs-1-reads
-use Rattle.load.proofs.upstream_of.Reads as upstream-of-reads
 
 -- src/lib.rt:543:9
 word-at-requires : tie.Need-word-at-requires

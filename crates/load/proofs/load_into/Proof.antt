@@ -6,11 +6,6 @@ use mathlib.Core.Path.{_∙_, ap, sym}
 use borrow.Author.Needs.{needs}
 use Rattle.load.proofs.load_into.Statement.{statement}
 use Rattle.load.proofs.load_into.Tie as tie
-use Rattle.load.proofs.load_into.Reads as reads
-use Rattle.load.proofs.load_into.Lts as lts
-use Rattle.description.proofs.check.Reads as check-reads
-use Rattle.load.proofs.fill.Reads as fill-reads
-use Rattle.wellformed.proofs.check.Reads as check-reads′
 
 -- src/lib.rt:649:47
 check-requires : tie.Need-check-requires

@@ -4,7 +4,6 @@ use Rattle.state.proofs.Laws as laws
 use borrow.Author.Needs.{needs}
 use Rattle.state.proofs.parse_state.Statement.{statement}
 use Rattle.state.proofs.parse_state.Tie as tie
-use Rattle.state.proofs.usb3_state.Reads as usb3-state-reads
 
 enum-told : tie.Need-enum-told
 enum-told c = search needs

@@ -7,12 +7,6 @@ use Prim.Native.Nat.{_*_}
 use borrow.Author.Needs.{needs}
 use Rattle.text.proofs.adapter_head.Statement.{statement}
 use Rattle.text.proofs.adapter_head.Tie as tie
-use Rattle.text.proofs.adapter_head.Reads as reads
-use Rattle.text.proofs.adapter_head.Lts as lts
-use Rattle.text.proofs.mark_at.Reads as mark-at-reads
-use Rattle.text.proofs.past_mark.Reads as past-mark-reads
-use Rattle.text.proofs.path_mark.Reads as path-mark-reads
-use Rattle.text.proofs.weight_of.Reads as weight-of-reads
 
 -- src/lib.rt:132:26
 mark-at-requires : tie.Need-mark-at-requires

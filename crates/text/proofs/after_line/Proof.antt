@@ -2,8 +2,6 @@ use Rattle.text.proofs.Sections.{next-line-on, next-line-end}
 use borrow.Author.Needs.{needs}
 use Rattle.text.proofs.after_line.Statement.{statement}
 use Rattle.text.proofs.after_line.Tie as tie
-use Rattle.text.proofs.after_line.Reads as reads
-use Rattle.text.proofs.after_line.Lts as lts
 
 -- src/lib.rt:46:16
 add-result : tie.Need-add-result

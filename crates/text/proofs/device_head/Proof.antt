@@ -1,8 +1,5 @@
 use native.Mathlib.Omega.{arith}
-use denote.Ref.{now}
 use lib.Dec.{eqb}
-use Rattle.text.specs.Text.{next}
-use Rattle.text.specs.Work.{sectionsFrom}
 use Rattle.text.proofs.Sections.{device-is, bit-le}
 use mathlib.Core.Path.{_∙_, ap}
 use Prim.Native.Nat.{_*_}
@@ -10,11 +7,6 @@ use Rattle.text.specs.Text.{bit}
 use borrow.Author.Needs.{needs}
 use Rattle.text.proofs.device_head.Statement.{statement}
 use Rattle.text.proofs.device_head.Tie as tie
-use Rattle.text.proofs.device_head.Reads as reads
-use Rattle.text.proofs.device_head.Lts as lts
-use Rattle.text.proofs.mark_at.Reads as mark-at-reads
-use Rattle.text.proofs.past_mark.Reads as past-mark-reads
-use Rattle.text.proofs.weight_of.Reads as weight-of-reads
 
 -- src/lib.rt:121:26
 mark-at-requires : tie.Need-mark-at-requires

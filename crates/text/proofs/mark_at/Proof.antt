@@ -1,4 +1,4 @@
-use mathlib.Core.Path.{_≡_, refl, _∙_, ap, sym}
+use mathlib.Core.Path.{_∙_, ap, sym}
 use native.Mathlib.Omega.{arith}
 use denote.Ref.{now}
 use Rattle.scan.specs.Scan.{isLineFeed}
@@ -9,10 +9,6 @@ use Rattle.text.proofs.Sections.{next-end, mark-here}
 use borrow.Author.Needs.{needs}
 use Rattle.text.proofs.mark_at.Statement.{statement}
 use Rattle.text.proofs.mark_at.Tie as tie
-use Rattle.text.proofs.mark_at.Reads as reads
-use Rattle.text.proofs.mark_at.Lts as lts
-use Rattle.markers.proofs.marker.Reads as marker-reads
-use Rattle.scan.proofs.line_end.Reads as line-end-reads
 
 -- src/lib.rt:57:9
 returns : tie.Need-returns

@@ -4,8 +4,6 @@ use native.Mathlib.Omega.{arith}
 use Rattle.text.proofs.Marking.{Marks, marks-start, marks-step, marks-end}
 use Rattle.text.proofs.mark_groups.Statement.{statement}
 use Rattle.text.proofs.mark_groups.Tie as tie
-use Rattle.text.proofs.mark_groups.Reads as reads
-use Rattle.text.proofs.mark_groups.Lts as lts
 
 abbrev Inv-loop : tie.InvT-loop
 Inv-loop groups₀ i₀ groups i = Marks groups₀ groups i

@@ -7,9 +7,6 @@ use borrow.Author.Needs.{needs}
 use Rattle.text.proofs.Skipping.{Skips, skips-start, skips-more, skipped-last, skipped-marker, skipped-end}
 use Rattle.text.proofs.next_marker.Statement.{statement}
 use Rattle.text.proofs.next_marker.Tie as tie
-use Rattle.text.proofs.next_marker.Reads as reads
-use Rattle.text.proofs.next_marker.Lts as lts
-use Rattle.scan.proofs.line_end.Reads as line-end-reads
 
 abbrev Inv-loop : tie.InvT-loop
 Inv-loop text from i₀ i = Skips text from i

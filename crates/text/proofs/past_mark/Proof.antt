@@ -6,12 +6,6 @@ use Rattle.text.proofs.Sections.{stays, stays-end, goes-past}
 use borrow.Author.Needs.{needs}
 use Rattle.text.proofs.past_mark.Statement.{statement}
 use Rattle.text.proofs.past_mark.Tie as tie
-use Rattle.text.proofs.past_mark.Reads as reads
-use Rattle.text.proofs.past_mark.Lts as lts
-use Rattle.scan.proofs.line_end.Reads as line-end-reads
-use Rattle.text.proofs.after_line.Reads as after-line-reads
-use Rattle.text.proofs.mark_at.Reads as mark-at-reads
-use Rattle.text.proofs.next_marker.Reads as next-marker-reads
 
 -- src/lib.rt:84:9
 returns : tie.Need-returns

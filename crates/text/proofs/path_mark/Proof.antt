@@ -3,8 +3,6 @@ use Rattle.text.specs.Text.{pathMark}
 use borrow.Author.Tests.{ne-eqb}
 use Rattle.text.proofs.path_mark.Statement.{statement}
 use Rattle.text.proofs.path_mark.Tie as tie
-use Rattle.text.proofs.path_mark.Reads as reads
-use Rattle.text.proofs.path_mark.Lts as lts
 
 -- src/lib.rt:108:9
 returns : tie.Need-returns

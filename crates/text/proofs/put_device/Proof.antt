@@ -4,9 +4,6 @@ use Rattle.text.proofs.Sections.{put-device}
 use borrow.Author.Needs.{needs}
 use Rattle.text.proofs.put_device.Statement.{statement}
 use Rattle.text.proofs.put_device.Tie as tie
-use Rattle.text.proofs.put_device.Reads as reads
-use Rattle.text.proofs.put_device.Lts as lts
-use Rattle.text.proofs.device_head.Reads as device-head-reads
 
 -- src/lib.rt:151:14
 device-head-requires : tie.Need-device-head-requires

@@ -1,19 +1,12 @@
 use Rattle.text.proofs.Dumps.{record-room, dump-put, no-high, no-short}
-use mathlib.Core.Path.{_≡_, sym, _∙_, ap}
-use Prim.Native.Nat.{_+_, _*_, _-_}
-use mathlib.Core.List.{_++_}
+use mathlib.Core.Path.{sym}
+use Prim.Native.Nat.{_+_}
 use denote.Ref.{now}
 use native.Mathlib.Omega.{arith}
-use lib.ListN.{length, take, drop, length-drop}
-use lib.Seq.{length-take-le, take-all}
-use Rattle.dump.specs.Dump.{dumpWords}
+use lib.Seq.{length-take-le}
 use borrow.Author.Needs.{needs}
 use Rattle.text.proofs.put_dump.Statement.{statement}
 use Rattle.text.proofs.put_dump.Tie as tie
-use Rattle.text.proofs.put_dump.Reads as reads
-use Rattle.text.proofs.put_dump.Lts as lts
-use Rattle.dump.proofs.read.Reads as read-reads
-use Rattle.text.proofs.least.Reads as least-reads
 
 -- src/lib.rt:173:9
 least-requires : tie.Need-least-requires

@@ -2,7 +2,7 @@ use Rattle.dump.specs.Dump.{dumpWords}
 use lib.ListN.{length}
 use Prim.Native.Nat.{_%_}
 use native.Mathlib.Omega.{arith}
-use mathlib.Core.Path.{_∙_, ap, sym}
+use mathlib.Core.Path.{_∙_, ap}
 use denote.Ref.{now}
 use Rattle.text.specs.Work.{marked, pathWords}
 use Rattle.text.proofs.Dumps.{middle, put-long, put-again, length-paths, whole-dump}
@@ -10,10 +10,6 @@ use Rattle.text.proofs.Marking.{marked-dump}
 use borrow.Author.Needs.{needs}
 use Rattle.text.proofs.put_paths.Statement.{statement}
 use Rattle.text.proofs.put_paths.Tie as tie
-use Rattle.text.proofs.put_paths.Reads as reads
-use Rattle.text.proofs.put_paths.Lts as lts
-use Rattle.text.proofs.mark_groups.Reads as mark-groups-reads
-use Rattle.text.proofs.put_dump.Reads as put-dump-reads
 
 -- src/lib.rt:198:9
 put-dump-requires : tie.Need-put-dump-requires

@@ -9,13 +9,6 @@ use Rattle.text.proofs.Sections.{put-adapter}
 use borrow.Author.Needs.{needs}
 use Rattle.text.proofs.put_section.Statement.{statement}
 use Rattle.text.proofs.put_section.Tie as tie
-use Rattle.text.proofs.put_section.Reads as reads
-use Rattle.text.proofs.put_section.Lts as lts
-use Rattle.markers.proofs.marker.Reads as marker-reads
-use Rattle.text.proofs.adapter_head.Reads as adapter-head-reads
-use Rattle.text.proofs.put_device.Reads as put-device-reads
-use Rattle.text.proofs.put_dump.Reads as put-dump-reads
-use Rattle.text.proofs.put_paths.Reads as put-paths-reads
 
 -- src/lib.rt:216:11
 marker-requires : tie.Need-marker-requires

@@ -1,5 +1,4 @@
 use mathlib.Core.Path.{_≡_, refl, _∙_}
-use lib.ListN.{drop, take}
 use Rattle.text.proofs.Skipping.{is-marker}
 use Prim.Native.Nat.{_-_}
 use native.Mathlib.Omega.{arith}
@@ -12,12 +11,6 @@ use Rattle.text.proofs.Bodies.{Going, going-start, body-fits, going-ste
 use Rattle.text.proofs.Dumps.{low-part}
 use Rattle.text.proofs.put_sections.Statement.{statement}
 use Rattle.text.proofs.put_sections.Tie as tie
-use Rattle.text.proofs.put_sections.Reads as reads
-use Rattle.text.proofs.put_sections.Lts as lts
-use Rattle.scan.proofs.line_end.Reads as line-end-reads
-use Rattle.text.proofs.after_line.Reads as after-line-reads
-use Rattle.text.proofs.next_marker.Reads as next-marker-reads
-use Rattle.text.proofs.put_section.Reads as put-section-reads
 
 abbrev Inv-loop : tie.InvT-loop
 Inv-loop text scratch₀ out₀ k₀ at₀ scratch out k at = (length scratch ≡ length scratch₀) × Going text out₀ out (length scratch₀) k at

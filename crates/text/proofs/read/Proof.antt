@@ -1,4 +1,3 @@
-use native.Mathlib.Omega.{arith}
 use mathlib.Core.Path.{refl, _∙_, ap, sym}
 use Rattle.grammar.specs.Grammar.{checkOutcome}
 use Rattle.text.specs.Text.{textOutcome}
@@ -7,10 +6,6 @@ use denote.Ref.{now}
 use borrow.Author.Needs.{needs}
 use Rattle.text.proofs.read.Statement.{statement}
 use Rattle.text.proofs.read.Tie as tie
-use Rattle.text.proofs.read.Reads as reads
-use Rattle.text.proofs.read.Lts as lts
-use Rattle.grammar.proofs.check.Reads as check-reads
-use Rattle.text.proofs.put_sections.Reads as put-sections-reads
 
 -- src/lib.rt:261:11
 check-requires : tie.Need-check-requires

@@ -1,12 +1,8 @@
-use mathlib.Core.Path.{sym, ap}
-use Prim.Native.Nat.{_*_}
 use native.Mathlib.Omega.{arith}
 use Rattle.text.specs.Text.{bit}
 use borrow.Author.Tests.{eq-eqb, ne-eqb}
 use Rattle.text.proofs.weight_of.Statement.{statement}
 use Rattle.text.proofs.weight_of.Tie as tie
-use Rattle.text.proofs.weight_of.Reads as reads
-use Rattle.text.proofs.weight_of.Lts as lts
 
 -- src/lib.rt:98:9
 returns : tie.Need-returns

@@ -3,8 +3,6 @@ use native.Mathlib.Omega.{arith}
 use Rattle.walk.proofs.Turns.{stopped-none, stopped-path}
 use Rattle.walk.proofs.stopped.Statement.{statement}
 use Rattle.walk.proofs.stopped.Tie as tie
-use Rattle.walk.proofs.stopped.Reads as reads
-use Rattle.walk.proofs.stopped.Lts as lts
 
 -- src/lib.rt:27:9
 returns : tie.Need-returns

@@ -5,10 +5,6 @@ use denote.Ref.{now}
 use Rattle.walk.proofs.Turns.{Kept, Turning, kept-start, kept-stops, kept-hop, kept-ring, turning-on, turning-last, turning-dropped, turning-refused}
 use Rattle.walk.proofs.tally.Statement.{statement}
 use Rattle.walk.proofs.tally.Tie as tie
-use Rattle.walk.proofs.tally.Reads as reads
-use Rattle.walk.proofs.tally.Lts as lts
-use Rattle.fabric.proofs.leads.Reads as leads-reads
-use Rattle.walk.proofs.stopped.Reads as stopped-reads
 
 abbrev Inv-loop : tie.InvT-loop
 Inv-loop entries adapters routes marks place adapter hop left₀ hops₀ p₀ a₀ h₀ from₀ out₀ left hops p a h from out =
