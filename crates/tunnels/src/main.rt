@@ -1,0 +1,118 @@
+// Reads the text of a survey from standard input and prints its tunnels, by our descriptions; or only `refused N`.
+ghost use mathlib.Core.Path.{_≡_};
+ghost use lib.ListN.{length};
+use libc::STDIN_FILENO;
+use libc::STDOUT_FILENO;
+use load::LoadAnswer;
+use printed::Printed;
+use report::Page;
+use report::Tried;
+use text::TextAnswer;
+
+// One byte more than a text may have, so that a longer one is seen. The contract says the length alone, which lending it as a slice needs.
+fn text_room() -> [u8; 65537]
+    ensures { λ r. ⌜ 65537 ≡ length r ⌝ }
+{
+    [0; 65537]
+}
+
+// Room for the lines of 16,384 result words, which have at most 43 bytes a word.
+fn page_room() -> [u8; 786432]
+    ensures { λ r. ⌜ 786432 ≡ length r ⌝ }
+{
+    [0; 786432]
+}
+
+// Writes the front of a buffer that was printed to.
+fn write(buffer: &[u8], done: Printed) {
+    if let Printed::Bytes(n) = done {
+        if n <= buffer.len() {
+            io::write_all(STDOUT_FILENO, &buffer[..n]);
+        }
+    }
+}
+
+fn write_refused(number: u8) {
+    let mut line = [0u8; 16];
+    let done = printed::refused(number, &mut line);
+    write(&line, done);
+}
+
+fn write_total(tunnels: usize) {
+    let mut line = [0u8; 32];
+    let done = printed::total(tunnels, &mut line);
+    write(&line, done);
+}
+
+// Writes each adapter's lines, by way of a buffer that holds any page.
+fn write_pages(
+    entries: &[u64],
+    adapters: &[u64],
+    routes: &[u64],
+    marks: &[u64],
+    buffer: &mut [u8],
+) {
+    let mut index = 0;
+    while index < adapters.len() {
+        if let Page::Bytes(n) = report::put_page(entries, adapters, routes, marks, index, buffer) {
+            io::write_all(STDOUT_FILENO, &buffer[..n]);
+        }
+        index += 1;
+    }
+}
+
+// Nothing is written before all adapters were tried.
+fn write_report(entries: &[u64], adapters: &[u64], routes: &[u64], marks: &[u64]) {
+    match report::try_all(entries, adapters, routes, marks) {
+        Tried::Refused(numbers) => write_refused(numbers.number),
+        Tried::Tunnels(n) => {
+            write_total(n);
+            let mut buffer = page_room();
+            write_pages(entries, adapters, routes, marks, &mut buffer);
+        }
+    }
+}
+
+fn write_survey(survey: &[u32]) {
+    let ours = metadata::ours();
+    let loaded = load::load(&ours, survey);
+    let answer = loaded.answer;
+    match answer {
+        LoadAnswer::Refused(refusal) => {
+            let numbers = refusals::numbers_of(refusal);
+            write_refused(numbers.number);
+        }
+        LoadAnswer::Tables {
+            entries,
+            adapters,
+            devices,
+        } => {
+            let paths = loaded.entries;
+            let table = loaded.adapters;
+            let routes = loaded.routes;
+            let marks = loaded.marks;
+            write_report(
+                &paths[..entries],
+                &table[..adapters],
+                &routes[..devices],
+                &marks[..devices],
+            );
+        }
+    }
+}
+
+fn write_text(text: &[u8]) {
+    let mut survey = [0u32; 16384];
+    match text::read(text, &mut survey) {
+        TextAnswer::Words(n) => write_survey(&survey[..n]),
+        TextAnswer::Short(_) => write_refused(2),
+        TextAnswer::NotAscii(_) => write_refused(1),
+        TextAnswer::Wrong(_) => write_refused(4),
+    }
+}
+
+fn main() {
+    let mut text = text_room();
+    let n = io::read_full(STDIN_FILENO, &mut text);
+    write_text(&text[..n]);
+}
