@@ -1,4 +1,4 @@
-// A case is one line: a text as hex pairs (`-` for none), a blank, what is printed as hex pairs, LF. No function here needs an index to be within the line:
+// A case is one line: a text as hex pairs (`-` for none), a blank, what is printed as hex pairs. No function here needs an index to be within the line:
 // where nothing stands, nothing agrees.
 ghost use Prim.Native.Nat.{_≤_};
 ghost use lib.ListN.{length};
@@ -117,13 +117,7 @@ pub fn after(pairs: &[u8], at: usize, bytes: &[u8]) -> usize {
     i
 }
 
-// Whether the pairs end before that index, and then LF ends the line.
+// Whether the pairs end before that index. The program prints at least a line, so a case without pairs doesn't agree.
 pub fn ends(pairs: &[u8], at: usize) -> bool {
-    if pairs.len() % 2 != 1 {
-        return false;
-    }
-    if pairs.len() / 2 != at {
-        return false;
-    }
-    pairs[pairs.len() - 1] == b'\n'
+    0 < at && pairs.len() % 2 == 0 && pairs.len() / 2 == at
 }

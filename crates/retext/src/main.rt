@@ -3,7 +3,7 @@
 mod answer;
 mod case;
 
-ghost use Prim.Native.Nat.{_<_, _≤_};
+ghost use Prim.Native.Nat.{_+_, _<_, _≤_};
 ghost use mathlib.Core.Path.{_≡_};
 ghost use lib.ListN.{length};
 use libc::STDOUT_FILENO;
@@ -29,22 +29,6 @@ fn text_room() -> [u8; 65537]
     [0; 65537]
 }
 
-// The place after the line that starts at `start`.
-fn line_end(text: &[u8], start: usize) -> usize
-    requires { ⌜ start < length (now text) ⌝ }
-    ensures { λ r. ⌜ r ≤ length (now (text .entry)) ⌝ }
-    ensures { λ r. ⌜ start < r ⌝ }
-{
-    let mut i = start;
-    while i < text.len() {
-        if text[i] == b'\n' {
-            return i + 1;
-        }
-        i += 1;
-    }
-    i
-}
-
 // Whether the case that the line holds agrees; a malformed one doesn't.
 fn agrees(line: &[u8]) -> bool {
     let mut text = text_room();
@@ -57,7 +41,7 @@ fn agrees(line: &[u8]) -> bool {
 // The totals with one case more.
 fn counted(t: Totals, agreed: bool) -> Totals
     requires { ⌜ (t .differ ≤ t .cases) × (t .cases < 1000000) ⌝ }
-    ensures { λ r. ⌜ (r .differ ≤ r .cases) × (r .cases ≤ 1000000) ⌝ }
+    ensures { λ r. ⌜ (r .differ ≤ r .cases) × (r .cases ≡ t .cases + 1) ⌝ }
 {
     let cases = t.cases + 1;
     if agreed {
@@ -92,9 +76,9 @@ fn count_cases(text: &[u8]) -> Totals
     };
     let mut start = 0;
     while start < text.len() {
-        let end = line_end(text, start);
+        let end = scan::line_end(text, start);
         t = counted(t, agrees(&text[start..end]));
-        start = end;
+        start = end + 1;
     }
     t
 }

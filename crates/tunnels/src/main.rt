@@ -23,28 +23,21 @@ fn page_room() -> [u8; 786432]
     [0; 786432]
 }
 
-// Writes the front of a buffer that was printed to.
-fn write(buffer: &[u8], done: Printed) {
-    if let Printed::Bytes(n) = done {
-        if n <= buffer.len() {
-            io::write_all(STDOUT_FILENO, &buffer[..n]);
-        }
-    }
-}
-
 fn write_refused(number: u8) {
     let mut line = [0u8; 16];
-    let done = printed::refused(number, &mut line);
-    write(&line, done);
+    if let Printed::Bytes(n) = printed::refused(number, &mut line) {
+        io::write_all(STDOUT_FILENO, &line[..n]);
+    }
 }
 
 fn write_total(tunnels: usize) {
     let mut line = [0u8; 32];
-    let done = printed::total(tunnels, &mut line);
-    write(&line, done);
+    if let Printed::Bytes(n) = printed::total(tunnels, &mut line) {
+        io::write_all(STDOUT_FILENO, &line[..n]);
+    }
 }
 
-// Writes each adapter's lines, by way of a buffer that holds any page.
+// Writes each adapter's lines, by way of a buffer that holds any page. None is refused here, since each was tried.
 fn write_pages(
     entries: &[u64],
     adapters: &[u64],
