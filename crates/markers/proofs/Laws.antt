@@ -9,9 +9,9 @@ use lib.Dec.{eqb}
 use lib.ListN.{length, getD, drop, drop-of-length-le}
 use lib.Seq.{drop-cons}
 use borrow.Author.Tests.{eq-eqb, ne-eqb, le-leb, lt-leb}
-use Rattle.scan.specs.Scan.{tokens, TokenAt}
+use Rattle.scan.specs.Scan.{tokens}
 use Rattle.scan.specs.declared.Span.{Span}
-use Rattle.scan.proofs.Laws.{Nth, nth-first, nth-next}
+use Rattle.scan.proofs.Laws.{Spans}
 use Rattle.util.specs.Number.{hexNumber, decimalNumber}
 use Rattle.util.specs.Text.{bytesOf}
 use Rattle.util.specs.declared.Number.the-variants.{Value, None}
@@ -159,21 +159,6 @@ more-tokens (t ∷ u ∷ []) h = absurd (omega arith)
 more-tokens (t ∷ u ∷ v ∷ []) h = absurd (omega arith)
 more-tokens (t ∷ u ∷ v ∷ w ∷ ts) h = refl
 
--- tokens found one after another are tokens 0, 1, 2, 3
-pub record Spans (s : List ℕ) (a b c d : Span) : Type 0 where
-  pub n0 : Nth s 0 (a .start) (a .end)
-  pub n1 : Nth s 1 (b .start) (b .end)
-  pub n2 : Nth s 2 (c .start) (c .end)
-  pub n3 : Nth s 3 (d .start) (d .end)
-
-pub spans : (s : List ℕ) (a b c d : Span) → TokenAt s 0 a → TokenAt s (a .end) b → TokenAt s (b .end) c → TokenAt s (c .end) d → Spans s a b c d
-spans s a b c d ha hb hc hd =
-    let m0 = nth-first s a ha in
-    let m1 = nth-next m0 b hb in
-    let m2 = nth-next m1 c hc in
-    record { n0 = m0; n1 = m1; n2 = m2; n3 = nth-next m2 d hd }
-
--- by where they start
 module _ {s : List ℕ} {a b c d : Span} (n : Spans s a b c d) where
   pub marker-none : length s ≤ a .start → bad ≡ markerOf s
   unfolding markerOf

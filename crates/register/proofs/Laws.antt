@@ -7,9 +7,8 @@ use mathlib.Core.List.{List, []}
 use native.Mathlib.Decide.{decLt}
 use lib.ListN.{length, getD}
 use borrow.Author.Tests.{lt-ltb, le-ltb, eq-eqb, ne-eqb}
-use Rattle.scan.specs.Scan.{tokens, TokenAt}
-use Rattle.scan.specs.declared.Span.{Span}
-use Rattle.scan.proofs.Laws.{Nth, nth-first, nth-next, tokens-le}
+use Rattle.scan.specs.Scan.{tokens}
+use Rattle.scan.proofs.Laws.{tokens-le}
 use Rattle.register.specs.Line.{isComment, fourTokens, fiveTokens, byTokens, meaning}
 use Rattle.register.specs.declared.Register.{Register}
 use Rattle.register.specs.declared.Skip.the-variants.{Comment, Few}
@@ -43,17 +42,3 @@ four-bytes l r e = omega (arith, tokens-le l, long (decLt (length (tokens l)) 4)
     long : Dec (length (tokens l) < 4) → 4 ≤ length (tokens l)
     long (yes h) = absurd (few (isComment l) refl h)
     long (no h) = omega arith
-
--- tokens found one after another are tokens 0, 1, 2, ..
-pub record Spans (s : List ℕ) (a b c d : Span) : Type 0 where
-  pub n0 : Nth s 0 (a .start) (a .end)
-  pub n1 : Nth s 1 (b .start) (b .end)
-  pub n2 : Nth s 2 (c .start) (c .end)
-  pub n3 : Nth s 3 (d .start) (d .end)
-
-pub spans : (s : List ℕ) (a b c d : Span) → TokenAt s 0 a → TokenAt s (a .end) b → TokenAt s (b .end) c → TokenAt s (c .end) d → Spans s a b c d
-spans s a b c d ha hb hc hd =
-    let m0 = nth-first s a ha in
-    let m1 = nth-next m0 b hb in
-    let m2 = nth-next m1 c hc in
-    record { n0 = m0; n1 = m1; n2 = m2; n3 = nth-next m2 d hd }

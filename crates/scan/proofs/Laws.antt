@@ -45,7 +45,7 @@ before-le p (b ∷ s) = step (p b) (before-le p s)
     step false h = omega arith
 
 -- where it is not the end, a byte of p stands there
-stops : (p : ℕ → Bool) (s : List ℕ) → before p s < length s → p (getD s (before p s) 0) ≡ true
+pub stops : (p : ℕ → Bool) (s : List ℕ) → before p s < length s → p (getD s (before p s) 0) ≡ true
 unfolding before
 stops p [] h = absurd (omega arith)
 stops p (b ∷ s) h = step (p b) refl h (λ q. stops p s q)
@@ -278,3 +278,17 @@ token-bytes p (b ∷ s) = step (p b) (pieces p s) (token-bytes p s)
 pub tokens-le : (s : List ℕ) → length (tokens s) ≤ length s
 unfolding tokens
 tokens-le s = token-bytes isSpace s
+
+-- tokens found one after another are tokens 0, 1, 2, ..
+pub record Spans (s : List ℕ) (a b c d : Span) : Type 0 where
+  pub n0 : Nth s 0 (a .start) (a .end)
+  pub n1 : Nth s 1 (b .start) (b .end)
+  pub n2 : Nth s 2 (c .start) (c .end)
+  pub n3 : Nth s 3 (d .start) (d .end)
+
+pub spans : (s : List ℕ) (a b c d : Span) → TokenAt s 0 a → TokenAt s (a .end) b → TokenAt s (b .end) c → TokenAt s (c .end) d → Spans s a b c d
+spans s a b c d ha hb hc hd =
+    let m0 = nth-first s a ha in
+    let m1 = nth-next m0 b hb in
+    let m2 = nth-next m1 c hc in
+    record { n0 = m0; n1 = m1; n2 = m2; n3 = nth-next m2 d hd }

@@ -23,7 +23,7 @@ use Rattle.dump.proofs.Groups.{length-words}
 use Rattle.dump.proofs.Lines.{count-cons, record-bytes}
 use Rattle.text.specs.Work.{Low, pathWords, PutAt}
 use Rattle.text.specs.Text.{pathGroup}
-use Rattle.text.proofs.Skipping.{stops}
+use Rattle.scan.proofs.Laws.{stops}
 
 -- ---- how long
 

@@ -11,7 +11,7 @@ use lib.ListN.{length, take, drop, getD, length-drop, length-append}
 use lib.Seq.{take-all, take-add, take-suc, take-at, drop-append-add, drop-drop, getD-take, getD-drop, length-take-le}
 use borrow.Author.Tests.{ne-eqb, eqb-true}
 use Rattle.scan.specs.Scan.{lines, isLineFeed, before, placeFrom}
-use Rattle.scan.proofs.Laws.{line-at, lines-end, place-above, place-within, place-on}
+use Rattle.scan.proofs.Laws.{stops, line-at, lines-end, place-above, place-within, place-on}
 use Rattle.register.specs.Line.{meaning}
 use Rattle.register.specs.declared.Register.{Register}
 use Rattle.register.specs.declared.Met.{Met}
@@ -78,16 +78,6 @@ pub records-append : (ls ms : List (List ℕ)) → dumpRecords (ls ++ ms) ≡ du
 unfolding dumpRecords
 records-append [] ms = refl
 records-append (l ∷ ls) ms = ap (λ q. withRecord (meaning l) q) (records-append ls ms) ∙ with-append (meaning l) (dumpRecords ls) (dumpRecords ms)
-
--- where a place is not the end, a byte of p stands there
-pub stops : (p : ℕ → Bool) (s : List ℕ) → before p s < length s → p (getD s (before p s) 0) ≡ true
-unfolding before
-stops p [] h = absurd (omega arith)
-stops p (b ∷ s) h = step (p b) refl h (λ q. stops p s q)
-  where
-    step : (t : Bool) → p b ≡ t → cond t 0 (suc (before p s)) < suc (length s) → (before p s < length s → p (getD s (before p s) 0) ≡ true) → p (getD (b ∷ s) (cond t 0 (suc (before p s))) 0) ≡ true
-    step true e h ih = e
-    step false e h ih = ih (omega arith)
 
 -- a cut line ends where it did
 before-cut : (p : ℕ → Bool) (s : List ℕ) (x : ℕ) (q : List ℕ) → p x ≡ true → before p s < length s → before p (take (before p s) s ++ (x ∷ q)) ≡ before p s

@@ -1,5 +1,5 @@
-use Rattle.scan.proofs.Laws.{nth-next}
-use Rattle.register.proofs.Laws.{is-comment, is-few, is-four, is-five, spans}
+use Rattle.scan.proofs.Laws.{nth-next, spans}
+use Rattle.register.proofs.Laws.{is-comment, is-few, is-four, is-five}
 use mathlib.Core.Path.{_≡_, sym, _∙_}
 use denote.Ref.{now}
 use native.Mathlib.Omega.{arith}
