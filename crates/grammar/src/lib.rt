@@ -27,7 +27,7 @@ pub enum Step {
 }
 
 // The same, with the survey words that the line makes.
-pub enum Advance {
+enum Advance {
     On(Under, usize),
     Wrong,
 }
@@ -41,7 +41,7 @@ pub enum Checked {
 }
 
 // The same for the lines alone.
-pub enum Lines {
+enum Lines {
     Words(usize),
     Wrong(usize),
 }

@@ -106,7 +106,7 @@ fn part(s: &[u8], t: Span) -> &[u8]
     &s[start..end]
 }
 
-// The marker that a line is.
+// What a line whose first byte is `@` says as a marker.
 pub fn marker(line: &[u8]) -> Mark
     ensures { λ r. ⌜ markerBy r ≡ markerOf (now (line .entry)) ⌝ }
 {

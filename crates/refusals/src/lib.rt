@@ -8,7 +8,7 @@ use load::Refusal;
 use refusal::Fault;
 use refusal::Site;
 
-// A refusal's number, how many values come with it, and the values.
+// A refusal's number, how many values come with it, and the values, 0 where there are fewer.
 pub struct Numbers {
     pub number: u8,
     pub values: usize,

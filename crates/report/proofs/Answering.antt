@@ -13,7 +13,7 @@ use Rattle.tables.specs.Packed.{adapterWord}
 use Rattle.load.specs.Answers.{refusedBy}
 use Rattle.load.specs.declared.Refusal.{Refusal}
 use Rattle.load.proofs.Result.{refused-bind}
-use Rattle.refusals.specs.Told.{refusedAs}
+use Rattle.refusals.specs.Told.{refusedAs, valuesOf}
 use Rattle.refusals.specs.declared.Numbers.{Numbers}
 use Rattle.walk.specs.Tables.{rowsOf}
 use Rattle.tunnel.specs.Tunnels.{Tunnel}
@@ -89,13 +89,13 @@ module _ (en ad ro ma : List ℕ) (i : ℕ) (out : List ℕ) (l : length out ≡
   in-refused : (m : Numbers) → refusedAs m ≡ tunnelsOutcome r → Answered en ad ro ma i (answer.Refused m) out′
   unfolding wordsOutcome refusedAs answerOf adapterWord
   in-refused m e = record {
-    answers = λ k es. refused-of found (length out) l (m .number) (take (m .values) (m .first ∷ m .second ∷ [])) (e ∙ d .answers (k .sized) es);
+    answers = λ k es. refused-of found (length out) l (m .number) (valuesOf (m .values) (m .first) (m .second)) (e ∙ d .answers (k .sized) es);
     within = λ m f. absurd (let z : _≡_ {A = ℕ} 0 1 = cc in omega arith);
   }
 
   -- there are more words than there is room for
   pub in-short : (n : ℕ) → r ≡ tunnels.Short n → Answered en ad ro ma i (answer.Refused (record { number = 2; values = 1; first = n; second = 0 })) out′
-  unfolding tunnelsOutcome refusedAs
+  unfolding tunnelsOutcome refusedAs valuesOf
   in-short n e = in-refused _ (sym (ap tunnelsOutcome e))
 
   pub in-refusal : (q : Refusal) → r ≡ tunnels.Refused q → (m : Numbers) → refusedAs {A = ℕ} m ≡ refusedBy q → Answered en ad ro ma i (answer.Refused m) out′

@@ -6,7 +6,7 @@ use mathlib.Core.List.{List, [], _∷_, _++_, map}
 use native.Mathlib.Omega.{arith}
 use borrow.Author.Tests.{ltb-false, le-ltb}
 use lib.Dec.{ltb, leb}
-use lib.ListN.{length, take, drop, getD}
+use lib.ListN.{length, take, drop, getD, length-append, length-drop}
 use lib.Seq.{drop-at}
 use Rattle.refusal.specs.Outcome.{refused, value, bind}
 use Rattle.tables.specs.Rows.{Rows}
@@ -52,6 +52,14 @@ room-bytes s room n e = go (leb most (length s)) (ltb room (length s)) refl e
     go false true q f = absurd (let z : _≡_ {A = ℕ} 0 1 = cc in omega arith)
     go false false q f = let z : length s ≡ n = cc in (z, omega (arith, ltb-false room (length s) q))
 
+room-short : (s : List ℕ) (room n : ℕ) → refused 2 (n ∷ []) ≡ inRoom room s → n ≡ capped (length s)
+unfolding inRoom
+room-short s room n e = go (leb most (length s) || ltb room (length s)) e
+  where
+    go : (b : Bool) → refused 2 (n ∷ []) ≡ cond b (refused 2 (capped (length s) ∷ [])) (value (length s)) → n ≡ capped (length s)
+    go true f = cc
+    go false f = absurd (let z : _≡_ {A = ℕ} 0 1 = cc in omega arith)
+
 module _ (en ad ro ma : List ℕ) (i : ℕ) (out : List ℕ) where
   -- ---- an empty page
 
@@ -64,6 +72,10 @@ module _ (en ad ro ma : List ℕ) (i : ℕ) (out : List ℕ) where
     kept = λ q. refl;
     within = λ n q. let z : 0 ≡ n = cc in omega arith;
     tail = λ n q. refl;
+    short = λ k es n q. absurd (let z : _≡_ {A = ℕ} 0 1 = cc in omega arith);
+    refuses = λ k es m q. absurd (let z : _≡_ {A = ℕ} 0 1 = cc in omega arith);
+    past = λ h. refl;
+    long = refl;
   }
 
   pub paged-larger : (Fits en ad ro → ⊥) → Paged en ad ro ma i out (page.Bytes 0) out
@@ -89,6 +101,10 @@ module _ (en ad ro ma : List ℕ) (i : ℕ) (out : List ℕ) where
       kept = λ q. refl;
       within = λ n q. absurd (let z : _≡_ {A = ℕ} 0 1 = cc in omega arith);
       tail = λ n q. refl;
+      short = λ k es n q. absurd (let z : _≡_ {A = ℕ} 0 1 = cc in omega arith);
+      refuses = λ k es n q. page-of k es ∙ ap (λ y. bind (wordsOutcome y ws) (λ us. value (linesOf us))) (e ∙ (let z : m ≡ n = cc in ap answer.Refused z));
+      past = λ h. absurd (omega arith);
+      long = refl;
     }
 
     module _ (n : ℕ) (e : r ≡ answer.Words n) (p : Printed) (out′ : List ℕ) (d : PrintDone (linesOf (take n ws)) out p out′) where
@@ -112,6 +128,10 @@ module _ (en ad ro ma : List ℕ) (i : ℕ) (out : List ℕ) where
             tail = λ m g.
                 let z : length s ≡ m = room .0 ∙ (let y : b ≡ m = cc in y) in
                 ap (drop m) wrote ∙ drop-at s (drop (length s) out) m z ∙ ap (λ k. drop k out) z;
+            short = λ k es m g. absurd (let z : _≡_ {A = ℕ} 0 1 = cc in omega arith);
+            refuses = λ k es m g. absurd (let z : _≡_ {A = ℕ} 0 1 = cc in omega arith);
+            past = λ h. absurd (omega arith);
+            long = ap length wrote ∙ length-append s (drop (length s) out) ∙ omega (arith, length-drop (length s) out, room);
           }
 
       pub paged-short : (b : ℕ) → p ≡ printed.Short b → Paged en ad ro ma i out (page.Short b) out′
@@ -125,4 +145,8 @@ module _ (en ad ro ma : List ℕ) (i : ℕ) (out : List ℕ) where
             kept = λ z. kept;
             within = λ m g. absurd (let z : _≡_ {A = ℕ} 0 1 = cc in omega arith);
             tail = λ m g. ap (drop m) kept;
+            short = λ k es m g. (linesOf (take n ws), page-words k es, (let z : m ≡ b = cc in z) ∙ room-short (linesOf (take n ws)) (length out) b (sym (ap printedOutcome q) ∙ d .answers));
+            refuses = λ k es m g. absurd (let z : _≡_ {A = ℕ} 0 1 = cc in omega arith);
+            past = λ h. absurd (omega arith);
+            long = ap length kept;
           }

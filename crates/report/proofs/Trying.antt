@@ -81,7 +81,7 @@ module _ (x : Rows) (total : ℕ) (y : AdapterRow) (ys : List AdapterRow) where
 
 module _ (en ad ro ma : List ℕ) where
   pub tries-larger : (Fits en ad ro → ⊥) → Tries en ad ro ma (tried.Tunnels 0)
-  tries-larger z = record { answers = λ k es. absurd (z k); larger = λ f. refl }
+  tries-larger z = record { answers = λ k es. absurd (z k); larger = λ f. refl; few = λ n q. let e : 0 ≡ n = cc in omega arith }
 
   pub none-tried : Trying en ad ro ma 0 0
   unfolding totalWith rowsOf rowsWith
@@ -113,6 +113,7 @@ module _ (en ad ro ma : List ℕ) where
           ∙ sym (next l)
           ∙ t .whole k es;
       larger = λ z. absurd (z f);
+      few = λ n q. absurd (let z : _≡_ {A = ℕ} 0 1 = cc in omega arith);
     }
 
     pub tries-all : length ad ≤ i → Fits en ad ro → Tries en ad ro ma (tried.Tunnels total)
@@ -123,4 +124,5 @@ module _ (en ad ro ma : List ℕ) where
           ∙ sym (ap (λ ys. totalWith (rowsOf en ad ro ma) total (map adapterWord ys)) (drop-of-length-le ad l))
           ∙ t .whole k es;
       larger = λ z. absurd (z f);
+      few = λ n q. let e : total ≡ n = cc in omega (arith, t .few, t .past);
     }

@@ -23,7 +23,7 @@ pub enum Page {
 }
 
 // How many result words an adapter has, or a refusal.
-pub enum Answer {
+enum Answer {
     Words(usize),
     Refused(Numbers),
 }

@@ -1,7 +1,7 @@
 -- `refusals::numbers_of` meets its contract.
 use mathlib.Core.Path.{sym, ap, _∙_}
 use Rattle.load.specs.Answers.{refusedBy}
-use Rattle.refusals.specs.Told.{refusedAs}
+use Rattle.refusals.specs.Told.{refusedAs, valuesOf}
 use borrow.Author.Needs.{needs}
 use Rattle.refusals.proofs.numbers_of.Statement.{statement}
 use Rattle.refusals.proofs.numbers_of.Tie as tie
@@ -22,19 +22,19 @@ enum-told : tie.Need-enum-told
 enum-told c = search needs
 
 returns : tie.Need-returns
-unfolding refusedAs refusedBy
+unfolding refusedAs valuesOf refusedBy
 returns c = sym (ap refusedBy (c .before .refusal .given .1))
 
 returns-2 : tie.Need-returns-2
-unfolding refusedAs refusedBy
+unfolding refusedAs valuesOf refusedBy
 returns-2 c = sym (ap refusedBy (c .before .refusal2 .given .1))
 
 returns-3 : tie.Need-returns-3
-unfolding refusedAs refusedBy
+unfolding refusedAs valuesOf refusedBy
 returns-3 c = (c .of-fault .ensures) ∙ sym (ap refusedBy (c .before .before .refusal3 .given .1))
 
 returns-4 : tie.Need-returns-4
-unfolding refusedAs refusedBy
+unfolding refusedAs valuesOf refusedBy
 returns-4 c = sym (ap refusedBy (c .enum-told .given .1))
 
 pub numbers-of-spec : {M : Type 1} → statement M

@@ -1,7 +1,7 @@
 -- `refusals::of_fault` meets its contract.
 use mathlib.Core.Path.{sym, ap, _∙_}
 use Rattle.refusal.specs.Refusal.{refusalOf, at}
-use Rattle.refusals.specs.Told.{refusedAs, sitedAs}
+use Rattle.refusals.specs.Told.{refusedAs, valuesOf, sitedAs}
 use borrow.Author.Needs.{needs}
 use Rattle.refusals.proofs.of_fault.Statement.{statement}
 use Rattle.refusals.proofs.of_fault.Tie as tie
@@ -55,39 +55,39 @@ enum-told : tie.Need-enum-told
 enum-told c = search needs
 
 returns : tie.Need-returns
-unfolding refusedAs sitedAs refusalOf at
+unfolding refusedAs valuesOf sitedAs refusalOf at
 returns c = ap refusedAs (c .sited .ensures) ∙ sym (ap refusalOf (c .before .before .fault .given .1))
 
 returns-2 : tie.Need-returns-2
-unfolding refusedAs sitedAs refusalOf at
+unfolding refusedAs valuesOf sitedAs refusalOf at
 returns-2 c = ap refusedAs (c .sited2 .ensures) ∙ sym (ap refusalOf (c .before .before .fault2 .given .1))
 
 returns-3 : tie.Need-returns-3
-unfolding refusedAs sitedAs refusalOf at
+unfolding refusedAs valuesOf sitedAs refusalOf at
 returns-3 c = sym (ap refusalOf (c .before .fault3 .given .1))
 
 returns-4 : tie.Need-returns-4
-unfolding refusedAs sitedAs refusalOf at
+unfolding refusedAs valuesOf sitedAs refusalOf at
 returns-4 c = ap refusedAs (c .sited3 .ensures) ∙ sym (ap refusalOf (c .before .before .fault4 .given .1))
 
 returns-5 : tie.Need-returns-5
-unfolding refusedAs sitedAs refusalOf at
+unfolding refusedAs valuesOf sitedAs refusalOf at
 returns-5 c = ap refusedAs (c .sited4 .ensures) ∙ sym (ap refusalOf (c .before .before .fault5 .given .1))
 
 returns-6 : tie.Need-returns-6
-unfolding refusedAs sitedAs refusalOf at
+unfolding refusedAs valuesOf sitedAs refusalOf at
 returns-6 c = ap refusedAs (c .sited5 .ensures) ∙ sym (ap refusalOf (c .before .before .fault6 .given .1))
 
 returns-7 : tie.Need-returns-7
-unfolding refusedAs sitedAs refusalOf at
+unfolding refusedAs valuesOf sitedAs refusalOf at
 returns-7 c = ap refusedAs (c .sited6 .ensures) ∙ sym (ap refusalOf (c .before .before .fault7 .given .1))
 
 returns-8 : tie.Need-returns-8
-unfolding refusedAs sitedAs refusalOf at
+unfolding refusedAs valuesOf sitedAs refusalOf at
 returns-8 c = ap refusedAs (c .sited7 .ensures) ∙ sym (ap refusalOf (c .before .before .fault8 .given .1))
 
 returns-9 : tie.Need-returns-9
-unfolding refusedAs sitedAs refusalOf at
+unfolding refusedAs valuesOf sitedAs refusalOf at
 returns-9 c = sym (ap refusalOf (c .enum-told .given .1))
 
 pub of-fault-spec : {M : Type 1} → statement M
