@@ -4,7 +4,8 @@ import sys
 
 SEED = 0x5DE2AC9D53
 HERE = pathlib.Path(__file__).resolve().parent
-DATA = HERE.parent / "crates" / "replay" / "data"
+CRATES = HERE.parent / "crates"
+RELOADED = ("loads", "other-loads", "load-rules", "walks", "walk-rules", "discoveries", "discovery-rules")  # crates/reload's; the others are crates/replay's
 LIMIT = 1_000_000  # bytes of a file, at most: the replay reads a file whole
 
 
@@ -61,7 +62,7 @@ def store(name, rows, altered, check):
     text = "".join(r + "\n" for r in rows)
     if len(text) >= LIMIT:
         sys.exit(f"{name} has {len(text)} bytes")
-    path = DATA / name
+    path = CRATES / ("reload" if name in RELOADED else "replay") / "data" / name
     if not check:
         path.write_text(text)
     elif not path.exists() or path.read_text() != text:

@@ -60,19 +60,9 @@ fn byte(high: u8, low: u8) -> u16 {
     h as u16 * 16 + l as u16
 }
 
-// Where the input ends: at the first blank or LF.
+// Where the input ends: at the first separator.
 pub fn input_end(line: &[u8]) -> usize {
-    let mut i = 0;
-    while i < line.len() {
-        if line[i] == b' ' {
-            return i;
-        }
-        if line[i] == b'\n' {
-            return i;
-        }
-        i += 1;
-    }
-    i
+    scan::token(line, 0).end
 }
 
 // Puts the bytes of the first `end` digits into `out`.

@@ -1,14 +1,11 @@
-// Replays the cases of data/ and writes a line of totals for each file: cases, how many agree and
+// Replays the cases of data/, of reading numbers, lines, dumps, descriptions and survey words and of routes, and writes a line of totals for each file: cases, how many agree and
 // differ, and the line of the first that differs. One answer in each file is wrong on purpose, so
 // each line of totals says `differ 1` and where.
 mod answer;
 mod case;
-mod lists;
-mod loads;
 mod names;
 mod routes;
 mod rule;
-mod starts;
 mod surveys;
 
 ghost use Prim.Native.Nat.{_<_, _≤_};
@@ -25,7 +22,7 @@ enum Kind {
     Rule,
 }
 
-// A file's cases: each by itself, routes, or questions about sets of descriptions, or surveys by them.
+// A file's cases: each by itself, routes, survey words, or questions about sets of descriptions.
 enum Cases {
     Each(Kind),
     Routes,
@@ -33,7 +30,6 @@ enum Cases {
     Surveys,
     Groups,
     Named,
-    Loads,
 }
 
 // `first` is the line of the first case that differs, from 1 on; 0 where all agree.
@@ -50,14 +46,11 @@ fn line_end(text: &[u8], start: usize) -> usize
     ensures { λ r. ⌜ r ≤ length (now (text .entry)) ⌝ }
     ensures { λ r. ⌜ start < r ⌝ }
 {
-    let mut i = start;
-    while i < text.len() {
-        if text[i] == b'\n' {
-            return i + 1;
-        }
-        i += 1;
+    let end = scan::line_end(text, start);
+    if end < text.len() {
+        return end + 1;
     }
-    i
+    text.len()
 }
 
 // Whether the case that the line holds agrees; a malformed one doesn't.
@@ -94,11 +87,10 @@ fn agreeing(kind: Kind, line: &[u8]) -> bool {
     agrees(kind, line, &mut bytes, &mut scratch, &mut output)
 }
 
-// A case about names or a survey goes by the set in `words`, of which `held` words are in hand; any other stands by itself.
+// A case about names goes by the set in `words`, of which `held` words are in hand; any other stands by itself.
 fn take(cases: Cases, line: &[u8], words: &mut [u32], held: usize) -> Step {
     match cases {
         Cases::Named => names::take_line(line, words, held),
-        Cases::Loads => loads::load_line(line, words, held),
         Cases::Each(kind) => Step {
             agrees: agreeing(kind, line),
             held: 0,
@@ -201,11 +193,4 @@ fn main() {
     replay(b"beneath", Cases::Beneath);
     replay(b"surveys", Cases::Surveys);
     replay(b"groups", Cases::Groups);
-    replay(b"loads", Cases::Loads);
-    replay(b"other-loads", Cases::Loads);
-    replay(b"load-rules", Cases::Loads);
-    replay(b"walks", Cases::Loads);
-    replay(b"walk-rules", Cases::Loads);
-    replay(b"discoveries", Cases::Loads);
-    replay(b"discovery-rules", Cases::Loads);
 }

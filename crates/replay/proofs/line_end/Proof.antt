@@ -1,51 +1,23 @@
--- The loop starts before the end, so the line has at least one byte.
-use Prim.Native.Nat.{_≤_, _-_}
-use lib.ListN.{length}
+-- The next LF stands at the start or after it.
+use native.Mathlib.Omega.{arith}
+use denote.Ref.{now}
 use borrow.Author.Needs.{needs}
+use Rattle.scan.specs.Scan.{isLineFeed}
+use Rattle.scan.proofs.Laws.{place-above}
 use Rattle.replay.proofs.line_end.Statement.{statement}
 use Rattle.replay.proofs.line_end.Tie as tie
 
-abbrev Inv-loop : tie.InvT-loop
-Inv-loop text start i₀ i = (start ≤ i) × (i ≤ length text)
+line-end-requires : tie.Need-line-end-requires
+line-end-requires c κs = search needs
 
-abbrev μ-loop : tie.MeasureT-loop
-μ-loop text start i₀ i = length text - i
-
-loop-holds : tie.Need-loop-holds Inv-loop μ-loop
-loop-holds c = search needs
-
-shared-slice-read-if1 : tie.Need-shared-slice-read-if1 Inv-loop μ-loop
-shared-slice-read-if1 c = search needs
-
-add-result : tie.Need-add-result Inv-loop μ-loop
+add-result : tie.Need-add-result
 add-result c = search needs
 
-returns : tie.Need-returns Inv-loop μ-loop
-returns c = search needs
+returns : tie.Need-returns
+returns c = let s = c .before .before .before in (omega arith, omega (arith, c .before .line-end .ensures, place-above isLineFeed (now (s .args .text)) (s .args .start)))
 
-add-i : tie.Need-add-i Inv-loop μ-loop
-add-i c = search needs
-
-loop-less : tie.Need-loop-less Inv-loop μ-loop
-loop-less c = search needs
-
-loop-again : tie.Need-loop-again Inv-loop μ-loop
-loop-again c = search needs
-
-returns-2 : tie.Need-returns-2 Inv-loop μ-loop
+returns-2 : tie.Need-returns-2
 returns-2 c = search needs
 
 pub line-end-spec : {M : Type 1} → statement M
-line-end-spec =
-    tie.close
-    (tie.spec
-    Inv-loop
-    μ-loop
-    loop-holds
-    shared-slice-read-if1
-    add-result
-    returns
-    add-i
-    loop-less
-    loop-again
-    returns-2)
+line-end-spec = tie.close (tie.spec line-end-requires add-result returns returns-2)
