@@ -6,7 +6,6 @@ use mathlib.Core.Bool.{Bool, true, false, cond, true≢false}
 use mathlib.Core.List.{List, [], _∷_, _++_, map, append-assoc, append-nil, Option·toList}
 use mathlib.Core.Option.{Option, none, some}
 use native.Mathlib.Omega.{arith}
-use native.Mathlib.Decide.{decLt}
 use denote.Enum.Declared.{tagOf}
 use types.Run.{OneOf}
 use lib.Dec.{ltb}
@@ -32,7 +31,7 @@ use Rattle.path.proofs.Writing.{length-path-words, refused-as}
 use Rattle.path.proofs.Answering.{start-there}
 use Rattle.tunnel.specs.Tunnels.{Path, Tunnel}
 use Rattle.tunnel.specs.Words.{closed, pathsWords, tunnelWord, tunnelWords, tunnelsWords}
-use Rattle.tunnel.specs.Plans.{From, Plan, fromOf, fromBy, planOf, planIf, plannedOutcome}
+use Rattle.tunnel.specs.Plans.{From, Plan, fromOf, fromBy, planOf, planIf, plannedOutcome, pathsBy}
 use Rattle.tunnel.specs.declared.Start.{Start}
 use Rattle.tunnel.specs.declared.Planned.{Planned}
 use Rattle.tunnel.specs.declared.Planned.the-variants as planned
@@ -181,13 +180,13 @@ module _ (en ad ro ma : List ℕ) where
   pub plan-full : (plan : Planned) (at : ℕ) (out : List ℕ) → at ≤ length out → length out ≤ at → PlanPut en ad ro ma plan at out at out
   plan-full plan at out room l = plan-not-put plan at out room (λ t e k. omega arith)
 
-  module _ (plan : Planned) (k : TunnelType) (c : Bool) (w n : ℕ) (a b d : Start) (is-plan : plan ≡ planned.Tunnel k c w n a b d) (at : ℕ) (out : List ℕ) (room : at < length out) (word m : ℕ)
-      (is : word ≡ 8 * 268435456 + cond c 65536 0 + m * 256 + tunnelNumber k) (few : (n ≤ 3 → m ≡ n) × (3 < n → m ≡ 3)) where
+  module _ (plan : Planned) (k : TunnelType) (c : Bool) (w n : ℕ) (a b d : Start) (is-plan : plan ≡ planned.Tunnel k c w n a b d) (at : ℕ) (out : List ℕ) (room : at < length out) (word : ℕ)
+      (is : word ≡ 8 * 268435456 + cond c 65536 0 + n * 256 + tunnelNumber k) where
     abbrev three : List From
     three = fromBy a ∷ fromBy b ∷ fromBy d ∷ []
 
     -- the paths that are planned
-    plan-put : (r : ℕ) (out′ : List ℕ) → r ≤ length out → length out′ ≡ length out → (fs : List From) → take n three ≡ fs → m ≡ length fs → Laid fs (at + 1) (set out at word) r out′ → PlanPut en ad ro ma plan at out r out′
+    plan-put : (r : ℕ) (out′ : List ℕ) → r ≤ length out → length out′ ≡ length out → (fs : List From) → take n three ≡ fs → n ≡ length fs → Laid fs (at + 1) (set out at word) r out′ → PlanPut en ad ro ma plan at out r out′
     unfolding plannedOutcome planIf planOf tunnelsWords tunnelWords tunnelWord Walks Option·toList
     plan-put r out′ within long fs e l laid = record { within = within; long = long; words = λ z t o q v fits. go z t o (sym (ap plannedOutcome is-plan) ∙ q) v fits }
       where
@@ -197,7 +196,7 @@ module _ (en ad ro ma : List ℕ) where
             let plan-is : record { type = k; closed = c; words = w; starts = take n three } ≡ planOf u = cc in
             let paths : fs ≡ map fromOf (u .paths) = sym e ∙ ap (λ (y : Plan). y .starts) plan-is in
             let head : word ≡ tunnelWord u = is
-            ∙ ap (λ y. 8 * 268435456 + cond y 65536 0 + m * 256 + tunnelNumber k) (ap (λ (y : Plan). y .closed) plan-is)
+            ∙ ap (λ y. 8 * 268435456 + cond y 65536 0 + n * 256 + tunnelNumber k) (ap (λ (y : Plan). y .closed) plan-is)
             ∙ ap (λ y. 8 * 268435456 + cond (closed u) 65536 0 + y * 256 + tunnelNumber k) (l ∙ ap length paths ∙ length-map (u .paths) fromOf)
             ∙ ap (λ y. 8 * 268435456 + cond (closed u) 65536 0 + length (u .paths) * 256 + tunnelNumber y) (ap (λ (y : Plan). y .type) plan-is) in
             let f = length-append (tunnelWords u) [] in
@@ -207,7 +206,7 @@ module _ (en ad ro ma : List ℕ) where
 
     pub plan-put-0 : n < 1 → PlanPut en ad ro ma plan at out (at + 1) (set out at word)
     unfolding Laid
-    plan-put-0 l = plan-put _ _ (omega arith) (length-set out at word) [] (ap (λ y. take y three) (let z : n ≡ 0 = omega arith in z)) (few .0 (omega arith) ∙ omega arith) (refl, refl)
+    plan-put-0 l = plan-put _ _ (omega arith) (length-set out at word) [] (ap (λ y. take y three) (let z : n ≡ 0 = omega arith in z)) (omega arith) (refl, refl)
 
     module _ (i : ℕ) (one : List ℕ) (f : PathPut en ad ro ma (fromBy a) (at + 1) (set out at word) i one) where
       pub one-within : i ≤ length one
@@ -218,7 +217,7 @@ module _ (en ad ro ma : List ℕ) where
 
       pub plan-put-1 : 1 ≤ n → n < 2 → PlanPut en ad ro ma plan at out i one
       unfolding Laid
-      plan-put-1 g l = plan-put i one (omega (arith, one-within, one-long)) one-long (fromBy a ∷ []) (ap (λ y. take y three) (let z : n ≡ 1 = omega arith in z)) (few .0 (omega arith) ∙ omega arith) (i, one, f, (refl, refl))
+      plan-put-1 g l = plan-put i one (omega (arith, one-within, one-long)) one-long (fromBy a ∷ []) (ap (λ y. take y three) (let z : n ≡ 1 = omega arith in z)) (omega arith) (i, one, f, (refl, refl))
 
       module _ (j : ℕ) (two : List ℕ) (h : PathPut en ad ro ma (fromBy b) i one j two) where
         pub two-within : j ≤ length two
@@ -229,15 +228,13 @@ module _ (en ad ro ma : List ℕ) where
 
         pub plan-put-2 : 2 ≤ n → n < 3 → PlanPut en ad ro ma plan at out j two
         unfolding Laid
-        plan-put-2 g l = plan-put j two (omega (arith, two-within, two-long)) two-long (fromBy a ∷ fromBy b ∷ []) (ap (λ y. take y three) (let z : n ≡ 2 = omega arith in z)) (few .0 (omega arith) ∙ omega arith) (i, one, f, (j, two, h, (refl, refl)))
+        plan-put-2 g l = plan-put j two (omega (arith, two-within, two-long)) two-long (fromBy a ∷ fromBy b ∷ []) (ap (λ y. take y three) (let z : n ≡ 2 = omega arith in z)) (omega arith) (i, one, f, (j, two, h, (refl, refl)))
 
-        pub plan-put-3 : 3 ≤ n → (r : ℕ) (out′ : List ℕ) → PathPut en ad ro ma (fromBy d) j two r out′ → PlanPut en ad ro ma plan at out r out′
-        unfolding Laid
-        plan-put-3 g r out′ x = plan-put r out′ (omega (arith, x .within, two-long)) (x .long ∙ two-long) three (take-all n three g) (clamp (decLt 3 n)) (i, one, f, (j, two, h, (r, out′, x, (refl, refl))))
-          where
-            clamp : Dec (3 < n) → m ≡ 3
-            clamp (yes y) = few .1 y
-            clamp (no y) = few .0 (omega arith) ∙ omega arith
+        pub plan-put-3 : 3 ≤ n → pathsBy plan ≤ 3 → (r : ℕ) (out′ : List ℕ) → PathPut en ad ro ma (fromBy d) j two r out′ → PlanPut en ad ro ma plan at out r out′
+        unfolding Laid pathsBy
+        plan-put-3 g few r out′ x =
+            let most : n ≤ 3 = subst (λ y. pathsBy y ≤ 3) is-plan few in
+            plan-put r out′ (omega (arith, x .within, two-long)) (x .long ∙ two-long) three (take-all n three g) (omega arith) (i, one, f, (j, two, h, (r, out′, x, (refl, refl))))
 
 -- ---- the head word
 

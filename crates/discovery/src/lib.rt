@@ -6,7 +6,7 @@ ghost use lib.ListN.{length};
 ghost use Rattle.usb4.specs.Numbers.{tunnelNumber};
 ghost use Rattle.adapter.specs.Adapter.{factsRow, adapterSite, maxHopOutcome};
 ghost use Rattle.tunnel.specs.Tunnels.{discover};
-ghost use Rattle.tunnel.specs.Plans.{Plans, fromBy};
+ghost use Rattle.tunnel.specs.Plans.{Plans, fromBy, pathsBy};
 ghost use Rattle.discovery.specs.Tables.{Discovered};
 ghost use Rattle.discovery.specs.Work.{PathPut, PlanPut, Tallies, RingsPut, OneAnswered, Answered, dmaBy, tunnelBy, tallyOf, ringsEnd};
 use adapter::Facts;
@@ -51,16 +51,6 @@ fn tunnel_word(kind: TunnelType, closed: bool, paths: u8) -> u32
     word
 }
 
-// A plan has no more than three paths.
-fn at_most_three(paths: u8) -> u8
-    ensures { λ r. ⌜ (paths ≤ 3 → r ≡ paths) × (3 < paths → r ≡ 3) ⌝ }
-{
-    if 3 < paths {
-        return 3;
-    }
-    paths
-}
-
 // Writes a path from a place of the output on; the place after it.
 fn put_start(
     entries: &[u64],
@@ -100,7 +90,7 @@ fn put_plan(
     output: &mut [u32],
     at: usize,
 ) -> usize
-    requires { ⌜ at ≤ length (now output) ⌝ }
+    requires { ⌜ (at ≤ length (now output)) × (pathsBy plan ≤ 3) ⌝ }
     ensures { λ r. ⌜ PlanPut (now (entries .entry)) (now (adapters .entry)) (now (routes .entry)) (now (marks .entry)) plan at (now (output .entry)) r (now (output .exit)) ⌝ }
 {
     let Planned::Tunnel {
@@ -118,7 +108,7 @@ fn put_plan(
     if output.len() <= at {
         return at;
     }
-    output[at] = tunnel_word(kind, closed, at_most_three(paths));
+    output[at] = tunnel_word(kind, closed, paths);
     if paths < 1 {
         return at + 1;
     }
@@ -240,6 +230,7 @@ fn put_one(
     plan: Planned,
     output: &mut [u32],
 ) -> TunnelsAnswer
+    requires { ⌜ pathsBy plan ≤ 3 ⌝ }
     ensures { λ r. ⌜ OneAnswered (now (entries .entry)) (now (adapters .entry)) (now (routes .entry)) (now (marks .entry)) plan (now (output .entry)) r (now (output .exit)) ⌝ }
 {
     match plan {

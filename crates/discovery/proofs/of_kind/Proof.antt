@@ -26,7 +26,7 @@ plan-of-requires : tie.Need-plan-of-requires
 plan-of-requires c κs = search needs
 
 put-one-requires : tie.Need-put-one-requires
-put-one-requires c κs = search needs
+put-one-requires c κs = c .before .plan-of .ensures .three
 
 same-length-2 : tie.Need-same-length-2
 same-length-2 c = search needs

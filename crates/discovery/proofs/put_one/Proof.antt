@@ -1,8 +1,11 @@
 -- `discovery::put_one` meets its contract.
+use Prim.Native.Nat.{_≤_}
 use denote.Ref.{now}
-use mathlib.Core.Path.{sym}
+use mathlib.Core.Path.{sym, subst}
+use native.Mathlib.Omega.{arith}
 use lib.Seq.{length-take-le}
 use borrow.Author.Needs.{needs}
+use Rattle.tunnel.specs.Plans.{pathsBy}
 use Rattle.discovery.proofs.Answering.{one-refused, one-absent, one-short, one-put}
 use Rattle.discovery.proofs.put_one.Statement.{statement}
 use Rattle.discovery.proofs.put_one.Tie as tie
@@ -26,7 +29,7 @@ slice-aggregate-put-plan : tie.Need-slice-aggregate-put-plan
 slice-aggregate-put-plan c = sym (length-take-le _ _ (c .before .if1 .left))
 
 put-plan-requires : tie.Need-put-plan-requires
-put-plan-requires c κs = search needs
+put-plan-requires c κs = (omega arith, subst (λ p. pathsBy p ≤ 3) (c .before .before .before .plan2 .given .1) (c .before .before .before .before .before .before .before .before .before .before .pre))
 
 returns-2 : tie.Need-returns-2
 returns-2 c = one-refused _ _ _ _ _ _ _ (c .before .plan .given .1)

@@ -22,7 +22,7 @@ one-dma-requires : tie.Need-one-dma-requires Inv-loop μ-loop
 one-dma-requires c κs = search needs
 
 put-plan-requires : tie.Need-put-plan-requires Inv-loop μ-loop
-put-plan-requires c κs = c .before .before .before .loop .inv .within
+put-plan-requires c κs = (c .before .before .before .loop .inv .within, c .before .one-dma .ensures .three)
 
 add-ring : tie.Need-add-ring Inv-loop μ-loop
 add-ring c = omega (arith, c .before .before .before .before .before .loop-test .taken, c .before .before .before .before .before .before .before .before .before .before .before .before .pre .1)
