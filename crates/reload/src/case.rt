@@ -120,7 +120,7 @@ pub fn number_at(line: &[u8], at: usize) -> u32 {
 }
 
 // Puts the words from `at` on into `words`, again and again until it is full.
-pub fn fill(line: &[u8], at: usize, words: &mut [u32]) {
+fn fill(line: &[u8], at: usize, words: &mut [u32]) {
     let mut a = at;
     let mut n = 0;
     while n < words.len() {
