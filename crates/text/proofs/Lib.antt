@@ -5,3 +5,4 @@ pub mod Dumps
 pub mod Bodies
 pub mod Counting
 pub mod Answers
+pub mod Small
