@@ -1,0 +1,4 @@
+pub mod Bounds
+pub mod Words
+pub mod Laws
+pub mod Agreement
