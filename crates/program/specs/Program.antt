@@ -1,6 +1,6 @@
 -- Document 01, the program: what it prints for a text. Assumes nothing.
 use Prim.Native.Nat.{ℕ}
-use mathlib.Core.List.{List, _++_}
+use mathlib.Core.List.{List}
 use Rattle.refusal.specs.Outcome.{Outcome, refused, value, bind}
 use Rattle.metadata.specs.Ours.{ours}
 use Rattle.survey.specs.Devices.{readSurvey}

@@ -1,0 +1,102 @@
+-- Laws of opening a text: what a part of it answers is what the whole answers. Assumes nothing.
+use Prim.Native.Nat.{ℕ}
+use native.Mathlib.Omega.{arith}
+use mathlib.Core.Path.{_≡_, refl, sym, ap, _∙_, subst}
+use mathlib.Core.List.{List, [], _∷_}
+use lib.ListN.{take}
+use lib.Seq.{length-take-le}
+use Rattle.refusal.specs.Outcome.{Outcome, refused, value, bind}
+use Rattle.description.specs.Rules.{readDescriptions}
+use Rattle.metadata.specs.Ours.{ours}
+use Rattle.survey.specs.Devices.{readSurvey}
+use Rattle.tables.specs.Rows.{Rows}
+use Rattle.load.specs.Loading.{loadFrom, loaded}
+use Rattle.load.specs.Answers.{refusedBy, loadedRows, Usable}
+use Rattle.load.specs.declared.Loaded.{Loaded}
+use Rattle.load.specs.declared.Refusal.{Refusal}
+use Rattle.load.specs.declared.LoadAnswer.the-variants as loading
+use Rattle.load.proofs.Result.{refused-bind, load-refused, usable}
+use Rattle.refusals.specs.Told.{refusedAs}
+use Rattle.refusals.specs.declared.Numbers.{Numbers}
+use Rattle.walk.specs.Tables.{rowsOf}
+use Rattle.devices.proofs.Laws.{Held}
+use Rattle.walks.proofs.Laws.{nothing, refused-value, rows-loaded, sized, tabled}
+use Rattle.report.specs.Report.{answersOf, totalOf}
+use Rattle.report.specs.Tables.{Fits, triedOutcome, Tries}
+use Rattle.report.specs.declared.Tried.{Tried}
+use Rattle.report.specs.declared.Tried.the-variants as tried
+use Rattle.text.specs.Text.{surveyOf}
+use Rattle.program.specs.Program.{rowsIn}
+use Rattle.program.specs.Opened.{Found, openOf, usedRows, openedBy, Used, UsedBy, Opens}
+use Rattle.program.specs.Work.{surveyed, foundIn, OpensTo, answerWith}
+use Rattle.program.specs.declared.Opened.{Opened}
+use Rattle.program.specs.declared.OpenAnswer.{OpenAnswer}
+use Rattle.program.specs.declared.OpenAnswer.the-variants as answer
+
+-- ---- a text
+
+module _ (t : List ℕ) (r : Opened) where
+  pub opens-refused : (n : ℕ) (vs : List ℕ) → surveyOf t ≡ refused n vs → OpensTo (refused n vs) r → Opens t r
+  unfolding openOf rowsIn foundIn bind
+  opens-refused n vs e h = record { answers = h .answers ∙ sym (ap (λ o. foundIn (bind o (λ s. bind (readSurvey s) (λ ds. loadFrom ours 0 ds)))) e); usable = h .usable }
+
+  pub opens-words : (ws : List ℕ) → surveyOf t ≡ value ws → OpensTo (surveyed ws) r → Opens t r
+  unfolding openOf rowsIn foundIn surveyed bind
+  opens-words ws e h = record { answers = h .answers ∙ sym (ap (λ o. foundIn (bind o (λ s. bind (readSurvey s) (λ ds. loadFrom ours 0 ds)))) e); usable = h .usable }
+
+-- a refusal, whatever the tables hold
+refused-to : (o : Outcome Rows) (m : Numbers) (en ad ro ma : List ℕ) → refusedAs m ≡ foundIn o → OpensTo o (record { answer = answer.Refused m; entries = en; adapters = ad; routes = ro; marks = ma })
+unfolding openedBy UsedBy
+refused-to o m en ad ro ma e = record { answers = e; usable = omega arith }
+
+-- one with a place
+pub placed-to : (n p : ℕ) (en ad ro ma : List ℕ) → OpensTo (refused n (p ∷ [])) (record { answer = answer.Refused (record { number = n; values = 1; first = p; second = 0 }); entries = en; adapters = ad; routes = ro; marks = ma })
+unfolding refusedAs foundIn bind
+placed-to n p en ad ro ma = refused-to (refused n (p ∷ [])) (record { number = n; values = 1; first = p; second = 0 }) en ad ro ma refl
+
+-- ---- a survey
+
+-- what trying answers, of the rows that were tried
+module _ (r : Opened) (e a d : ℕ) where
+  found : (o : Outcome (List (List ℕ))) (q : Tried) → triedOutcome q ≡ bind o (λ wss. value (totalOf wss))
+      → openedBy r (answerWith e a d q) ≡ bind o (λ wss. value (record { rows = usedRows r e a d; tunnels = totalOf wss }))
+  unfolding triedOutcome openedBy answerWith refusedAs bind nothing
+  found (refused k vs) (tried.Tunnels n) h = absurd (refused-value (sym h))
+  found (value wss) (tried.Tunnels n) h = let z : n ≡ totalOf wss = cc in ap (λ i. value (record { rows = usedRows r e a d; tunnels = i })) z
+  found (refused k vs) (tried.Refused m) h = ap (λ (y : Outcome ℕ). bind y (nothing {A = ℕ} {B = Found})) h
+  found (value wss) (tried.Refused m) h = absurd (refused-value h)
+
+  used-by : (q : Tried) → Used r e a d → UsedBy r (answerWith e a d q)
+  unfolding UsedBy answerWith
+  used-by (tried.Tunnels n) u = u
+  used-by (tried.Refused m) u = omega arith
+
+module _ (l : Loaded) (t s : List ℕ) (our : readDescriptions t ≡ value ours) (same : loadedRows l ≡ loaded t s) where
+  surveyed-so : loaded t s ≡ surveyed s
+  unfolding loaded surveyed bind
+  surveyed-so = ap (λ o. bind o (λ ds. bind (readSurvey s) (λ devices. loadFrom ds 0 devices))) our
+
+  pub not-loaded : (x : Refusal) → l .answer ≡ loading.Refused x → (m : Numbers) → refusedAs {A = ℕ} m ≡ refusedBy x → (en ad ro ma : List ℕ)
+      → OpensTo (surveyed s) (record { answer = answer.Refused m; entries = en; adapters = ad; routes = ro; marks = ma })
+  unfolding foundIn refusedAs bind nothing
+  not-loaded x g m f en ad ro ma =
+      refused-to (surveyed s) m en ad ro ma
+      (ap (λ (y : Outcome ℕ). bind y (nothing {A = ℕ} {B = Found})) f
+      ∙ refused-bind x (nothing {A = ℕ} {B = Found})
+      ∙ load-refused l t s same (λ x. bind (answersOf x (x .adapters)) (λ wss. value (record { rows = x; tunnels = totalOf wss }))) x g
+      ∙ ap foundIn surveyed-so)
+
+  module _ (e a d : ℕ) (g : l .answer ≡ loading.Tables e a d) (u : Usable l e a d) (h : Held l e a d) where
+    fits : Fits (take e (l .entries)) (take a (l .adapters)) (take d (l .routes))
+    fits = record { sized = sized l e a d u h; adapters = omega (arith, length-take-le a (l .adapters) (h .adapters), u .adapters) }
+
+    pub tried-all : (q : Tried) → Tries (take e (l .entries)) (take a (l .adapters)) (take d (l .routes)) (take d (l .marks)) q → (v : OpenAnswer) → v ≡ answerWith e a d q
+        → OpensTo (surveyed s) (record { answer = v; entries = l .entries; adapters = l .adapters; routes = l .routes; marks = l .marks })
+    unfolding foundIn usedRows bind
+    tried-all q w v f =
+        let r : Opened = record { answer = v; entries = l .entries; adapters = l .adapters; routes = l .routes; marks = l .marks } in
+        let x = rowsOf (take e (l .entries)) (take a (l .adapters)) (take d (l .routes)) (take d (l .marks)) in
+        record {
+          answers = ap (openedBy r) f ∙ found r e a d (answersOf x (x .adapters)) q (w .answers fits (tabled l e a d u h)) ∙ sym (ap foundIn (sym surveyed-so ∙ rows-loaded l t s e a d same g));
+          usable = subst (UsedBy r) (sym f) (used-by r e a d q (record { entries = u .entries; adapters = u .adapters; devices = u .devices; fits = fits; order = tabled l e a d u h }));
+        }

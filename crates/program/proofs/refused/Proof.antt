@@ -1,0 +1,10 @@
+use Rattle.program.proofs.Opening.{placed-to}
+use Rattle.program.proofs.refused.Statement.{statement}
+use Rattle.program.proofs.refused.Tie as tie
+
+-- src/lib.rt:35:1
+returns : tie.Need-returns
+returns c = placed-to _ _ _ _ _ _
+
+pub refused-spec : {M : Type 1} → statement M
+refused-spec = tie.close (tie.spec returns)
