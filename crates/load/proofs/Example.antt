@@ -75,7 +75,7 @@ exampleRows = record {
   devices = routerRow 0 3 ∷ routerRow 1 1 ∷ [];
 }
 
-read-and-load : bind (readSurvey example) (λ devices. loadFrom ours 0 devices) ≡ value exampleRows
+pub read-and-load : bind (readSurvey example) (λ devices. loadFrom ours 0 devices) ≡ value exampleRows
 unfolding example entry plainRow routerRow exampleRows bind refusalOf at bitsOf bytesOf typeOf laneStateOf deviceKindOf registerOf keep is isNone kindFits capFits vsFits fitsNaming only naming lower alike fieldIs findField oneBit findFlag valueIn isSet flagIn bitsNamed plain capped ours isLong sizeOf groupsOf goodDevice goodAdapter goodRegister afterDevice afterAdapter mayStand afterRegister stepOf stepBy sizeBy onStep firstBad checkOf registerIn withRegister withAdapter withDevice withGroup gather devicesOf readSurvey named orElse havingName havingRegister byName sited wantedField wantedFlag byOffset bothSet enabledIf byFlag byFlags laneState ofKind stateOf hasSpeed speedIn linkSpeed thirdValue kindOf registersOf indicesFrom lastOf between findCap found isLane isLane0 lane0Of lane1Of minHop narrow maxHopIn maxHop parseState adapterSite fewRegisters rowOf decodeOf entryIn entryOf withEntry entriesFrom entriesBy entriesOf joined itself andThen owned ownRows loadAdapter loadAdapters routerCs1 upstreamIn deviceRow deviceRows numbered fitting fits noRegisters loadDevice loadFrom
 read-and-load = refl
 

@@ -1,3 +1,4 @@
 pub mod Program
 pub mod Opened
+pub mod Written
 pub mod Work

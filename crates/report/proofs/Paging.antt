@@ -1,11 +1,10 @@
 -- Laws of the lines of one adapter. Assumes nothing.
 use Prim.Native.Nat.{ℕ, zero, suc, _≤_, _<_}
 use mathlib.Core.Path.{_≡_, refl, sym, ap, _∙_}
-use mathlib.Core.Bool.{Bool, true, false, cond, _||_, true≢false}
+use mathlib.Core.Bool.{true, false, cond, true≢false}
 use mathlib.Core.List.{List, [], _∷_, _++_, map}
 use native.Mathlib.Omega.{arith}
-use borrow.Author.Tests.{ltb-false, le-ltb}
-use lib.Dec.{ltb, leb}
+use borrow.Author.Tests.{le-ltb}
 use lib.ListN.{length, take, drop, getD, length-append, length-drop}
 use lib.Seq.{drop-at}
 use Rattle.refusal.specs.Outcome.{refused, value, bind}
@@ -15,11 +14,12 @@ use Rattle.refusals.specs.Told.{refusedAs}
 use Rattle.refusals.specs.declared.Numbers.{Numbers}
 use Rattle.fabric.specs.Tables.{rowsWith}
 use Rattle.walk.specs.Tables.{rowsOf, Tabled}
-use Rattle.print.specs.Print.{most, capped}
+use Rattle.print.specs.Print.{capped}
 use Rattle.printed.specs.Printed as text
 use Rattle.printed.specs.Printed.{linesOf, inRoom, printedOutcome, PrintDone}
 use Rattle.printed.specs.declared.Printed.{Printed}
 use Rattle.printed.specs.declared.Printed.the-variants as printed
+use Rattle.printed.proofs.Room.{room-bytes, room-short}
 use Rattle.report.specs.Report.{answerOf}
 use Rattle.report.specs.Tables.{Fits, pageBy, pageAt, pageOutcome, outputBy, isPage, Paged}
 use Rattle.report.specs.Work.{wordsOutcome, Answered}
@@ -40,25 +40,6 @@ unfolding pageBy
 page-past x i [] l = refl
 page-past x zero (w ∷ ws) l = absurd (omega arith)
 page-past x (suc i) (w ∷ ws) l = page-past x i ws (omega arith)
-
--- ---- a text that there is room for
-
-room-bytes : (s : List ℕ) (room n : ℕ) → value n ≡ inRoom room s → (length s ≡ n) × (n ≤ room)
-unfolding inRoom
-room-bytes s room n e = go (leb most (length s)) (ltb room (length s)) refl e
-  where
-    go : (b c : Bool) → ltb room (length s) ≡ c → value n ≡ cond (b || c) (refused 2 (capped (length s) ∷ [])) (value (length s)) → (length s ≡ n) × (n ≤ room)
-    go true c q f = absurd (let z : _≡_ {A = ℕ} 0 1 = cc in omega arith)
-    go false true q f = absurd (let z : _≡_ {A = ℕ} 0 1 = cc in omega arith)
-    go false false q f = let z : length s ≡ n = cc in (z, omega (arith, ltb-false room (length s) q))
-
-room-short : (s : List ℕ) (room n : ℕ) → refused 2 (n ∷ []) ≡ inRoom room s → n ≡ capped (length s)
-unfolding inRoom
-room-short s room n e = go (leb most (length s) || ltb room (length s)) e
-  where
-    go : (b : Bool) → refused 2 (n ∷ []) ≡ cond b (refused 2 (capped (length s) ∷ [])) (value (length s)) → n ≡ capped (length s)
-    go true f = cc
-    go false f = absurd (let z : _≡_ {A = ℕ} 0 1 = cc in omega arith)
 
 module _ (en ad ro ma : List ℕ) (i : ℕ) (out : List ℕ) where
   -- ---- an empty page

@@ -3,11 +3,9 @@
 ghost use mathlib.Core.Path.{_≡_};
 ghost use lib.ListN.{length};
 use crate::case::after;
-use load::LoadAnswer;
 use printed::Printed;
+use program::OpenAnswer;
 use report::Page;
-use report::Tried;
-use text::TextAnswer;
 
 // As much as the program lends for a page.
 fn page_room() -> [u8; 786432]
@@ -55,58 +53,32 @@ fn after_pages(
     i
 }
 
-fn after_report(
-    stored: &[u8],
-    entries: &[u64],
-    adapters: &[u64],
-    routes: &[u64],
-    marks: &[u64],
-) -> usize {
-    match report::try_all(entries, adapters, routes, marks) {
-        Tried::Refused(numbers) => after_refused(stored, numbers.number),
-        Tried::Tunnels(n) => {
-            let at = after_total(stored, n);
-            let mut buffer = page_room();
-            after_pages(stored, at, entries, adapters, routes, marks, &mut buffer)
-        }
-    }
-}
-
-fn after_survey(stored: &[u8], survey: &[u32]) -> usize {
-    let ours = metadata::ours();
-    let loaded = load::load(&ours, survey);
-    let answer = loaded.answer;
+pub fn after_text(stored: &[u8], text: &[u8]) -> usize {
+    let opened = program::open(text);
+    let answer = opened.answer;
     match answer {
-        LoadAnswer::Refused(refusal) => {
-            let numbers = refusals::numbers_of(refusal);
-            after_refused(stored, numbers.number)
-        }
-        LoadAnswer::Tables {
+        OpenAnswer::Refused(numbers) => after_refused(stored, numbers.number),
+        OpenAnswer::Tables {
             entries,
             adapters,
             devices,
+            tunnels,
         } => {
-            let paths = loaded.entries;
-            let table = loaded.adapters;
-            let routes = loaded.routes;
-            let marks = loaded.marks;
-            after_report(
+            let at = after_total(stored, tunnels);
+            let paths = opened.entries;
+            let table = opened.adapters;
+            let routes = opened.routes;
+            let marks = opened.marks;
+            let mut buffer = page_room();
+            after_pages(
                 stored,
+                at,
                 &paths[..entries],
                 &table[..adapters],
                 &routes[..devices],
                 &marks[..devices],
+                &mut buffer,
             )
         }
-    }
-}
-
-pub fn after_text(stored: &[u8], text: &[u8]) -> usize {
-    let mut survey = [0u32; 16384];
-    match text::read(text, &mut survey) {
-        TextAnswer::Words(n) => after_survey(stored, &survey[..n]),
-        TextAnswer::Short(_) => after_refused(stored, 2),
-        TextAnswer::NotAscii(_) => after_refused(stored, 1),
-        TextAnswer::Wrong(_) => after_refused(stored, 4),
     }
 }

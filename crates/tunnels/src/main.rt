@@ -3,11 +3,9 @@ ghost use mathlib.Core.Path.{_≡_};
 ghost use lib.ListN.{length};
 use libc::STDIN_FILENO;
 use libc::STDOUT_FILENO;
-use load::LoadAnswer;
 use printed::Printed;
+use program::OpenAnswer;
 use report::Page;
-use report::Tried;
-use text::TextAnswer;
 
 // One byte more than a text may have, so that a longer one is seen. The contract says the length alone, which lending it as a slice needs.
 fn text_room() -> [u8; 65537]
@@ -55,52 +53,31 @@ fn write_pages(
 }
 
 // Nothing is written before all adapters were tried.
-fn write_report(entries: &[u64], adapters: &[u64], routes: &[u64], marks: &[u64]) {
-    match report::try_all(entries, adapters, routes, marks) {
-        Tried::Refused(numbers) => write_refused(numbers.number),
-        Tried::Tunnels(n) => {
-            write_total(n);
-            let mut buffer = page_room();
-            write_pages(entries, adapters, routes, marks, &mut buffer);
-        }
-    }
-}
-
-fn write_survey(survey: &[u32]) {
-    let ours = metadata::ours();
-    let loaded = load::load(&ours, survey);
-    let answer = loaded.answer;
+fn write_text(text: &[u8]) {
+    let opened = program::open(text);
+    let answer = opened.answer;
     match answer {
-        LoadAnswer::Refused(refusal) => {
-            let numbers = refusals::numbers_of(refusal);
-            write_refused(numbers.number);
-        }
-        LoadAnswer::Tables {
+        OpenAnswer::Refused(numbers) => write_refused(numbers.number),
+        OpenAnswer::Tables {
             entries,
             adapters,
             devices,
+            tunnels,
         } => {
-            let paths = loaded.entries;
-            let table = loaded.adapters;
-            let routes = loaded.routes;
-            let marks = loaded.marks;
-            write_report(
+            write_total(tunnels);
+            let paths = opened.entries;
+            let table = opened.adapters;
+            let routes = opened.routes;
+            let marks = opened.marks;
+            let mut buffer = page_room();
+            write_pages(
                 &paths[..entries],
                 &table[..adapters],
                 &routes[..devices],
                 &marks[..devices],
+                &mut buffer,
             );
         }
-    }
-}
-
-fn write_text(text: &[u8]) {
-    let mut survey = [0u32; 16384];
-    match text::read(text, &mut survey) {
-        TextAnswer::Words(n) => write_survey(&survey[..n]),
-        TextAnswer::Short(_) => write_refused(2),
-        TextAnswer::NotAscii(_) => write_refused(1),
-        TextAnswer::Wrong(_) => write_refused(4),
     }
 }
 

@@ -1,76 +1,105 @@
-use mathlib.Core.Path.{sym}
-use lib.Seq.{length-take-le}
-use native.Mathlib.Omega.{arith}
-use Rattle.tunnels.proofs.Within.{words-within}
 use borrow.Author.Needs.{needs}
 use Rattle.tunnels.proofs.write_text.Statement.{statement}
 use Rattle.tunnels.proofs.write_text.Tie as tie
+use Rattle.tunnels.proofs.write_text.Reads as reads
+use Rattle.tunnels.proofs.write_text.Lts as lts
+use Rattle.program.proofs.open.Reads as open-reads
+use Rattle.tunnels.proofs.page_room.Reads as page-room-reads
+use Rattle.tunnels.proofs.write_pages.Reads as write-pages-reads
+use Rattle.tunnels.proofs.write_refused.Reads as write-refused-reads
+use Rattle.tunnels.proofs.write_total.Reads as write-total-reads
 
-slice-aggregate-read : tie.Need-slice-aggregate-read
-slice-aggregate-read c = search needs
+-- src/main.rt:57:9
+open-requires : tie.Need-open-requires
+open-requires c κs = search needs
 
-read-requires : tie.Need-read-requires
-read-requires c κs = search needs
+-- src/main.rt:60:29
+enum-known-answer : tie.Need-enum-known-answer
+enum-known-answer c = search needs
 
-enum-known-n : tie.Need-enum-known-n
-enum-known-n c = search needs
-
-array-share-prefix-survey : tie.Need-array-share-prefix-survey
-array-share-prefix-survey c = omega (arith, words-within _ (c .before .before .before .before .read .ensures) (c .before .n .given .1))
-
-slice-aggregate-write-survey : tie.Need-slice-aggregate-write-survey
-slice-aggregate-write-survey c = sym (length-take-le _ _ (omega (arith, words-within _ (c .before .before .before .before .before .read .ensures) (c .before .before .n .given .1))))
-
-write-survey-requires : tie.Need-write-survey-requires
-write-survey-requires c κs = search needs
-
-enum-told : tie.Need-enum-told
-enum-told c = search needs
-
+-- src/main.rt:60:41
 write-refused-requires : tie.Need-write-refused-requires
 write-refused-requires c κs = search needs
 
-enum-told-2 : tie.Need-enum-told-2
-enum-told-2 c = search needs
+-- src/main.rt:62:13
+enum-known-answer-2 : tie.Need-enum-known-answer-2
+enum-known-answer-2 c = search needs
 
-write-refused-requires-2 : tie.Need-write-refused-requires-2
-write-refused-requires-2 c κs = search needs
+-- src/main.rt:67:13
+write-total-requires : tie.Need-write-total-requires
+write-total-requires c κs = search needs
 
-enum-told-3 : tie.Need-enum-told-3
-enum-told-3 c = search needs
+-- src/main.rt:72:30
+page-room-requires : tie.Need-page-room-requires
+page-room-requires c κs = search needs
 
-write-refused-requires-3 : tie.Need-write-refused-requires-3
-write-refused-requires-3 c κs = search needs
+-- src/main.rt:74:17
+array-share-prefix-paths : tie.Need-array-share-prefix-paths
+array-share-prefix-paths c = ?
 
+-- src/main.rt:74:17
+slice-aggregate-write-pages : tie.Need-slice-aggregate-write-pages
+slice-aggregate-write-pages c = ?
+
+-- src/main.rt:75:17
+array-share-prefix-table : tie.Need-array-share-prefix-table
+array-share-prefix-table c = ?
+
+-- src/main.rt:75:17
+slice-aggregate-write-pages-2 : tie.Need-slice-aggregate-write-pages-2
+slice-aggregate-write-pages-2 c = ?
+
+-- src/main.rt:76:17
+array-share-prefix-routes : tie.Need-array-share-prefix-routes
+array-share-prefix-routes c = ?
+
+-- src/main.rt:76:17
+slice-aggregate-write-pages-3 : tie.Need-slice-aggregate-write-pages-3
+slice-aggregate-write-pages-3 c = ?
+
+-- src/main.rt:77:17
+array-share-prefix-marks : tie.Need-array-share-prefix-marks
+array-share-prefix-marks c = ?
+
+-- src/main.rt:77:17
+slice-aggregate-write-pages-4 : tie.Need-slice-aggregate-write-pages-4
+slice-aggregate-write-pages-4 c = ?
+
+-- src/main.rt:78:17
+slice-aggregate-write-pages-5 : tie.Need-slice-aggregate-write-pages-5
+slice-aggregate-write-pages-5 c = search needs
+
+-- src/main.rt:73:13
+write-pages-requires : tie.Need-write-pages-requires
+write-pages-requires c κs = search needs
+
+-- src/main.rt:56:1
 returns : tie.Need-returns
 returns c = search needs
 
+-- src/main.rt:56:1
 returns-2 : tie.Need-returns-2
 returns-2 c = search needs
-
-returns-3 : tie.Need-returns-3
-returns-3 c = search needs
-
-returns-4 : tie.Need-returns-4
-returns-4 c = search needs
 
 pub write-text-spec : {M : Type 1} → statement M
 write-text-spec =
     tie.close
     (tie.spec
-    slice-aggregate-read
-    read-requires
-    enum-known-n
-    array-share-prefix-survey
-    slice-aggregate-write-survey
-    write-survey-requires
-    enum-told
+    open-requires
+    enum-known-answer
     write-refused-requires
-    enum-told-2
-    write-refused-requires-2
-    enum-told-3
-    write-refused-requires-3
+    enum-known-answer-2
+    write-total-requires
+    page-room-requires
+    array-share-prefix-paths
+    slice-aggregate-write-pages
+    array-share-prefix-table
+    slice-aggregate-write-pages-2
+    array-share-prefix-routes
+    slice-aggregate-write-pages-3
+    array-share-prefix-marks
+    slice-aggregate-write-pages-4
+    slice-aggregate-write-pages-5
+    write-pages-requires
     returns
-    returns-2
-    returns-3
-    returns-4)
+    returns-2)

@@ -1,7 +1,7 @@
 use mathlib.Core.Path.{sym}
 use lib.Seq.{length-take-le}
 use native.Mathlib.Omega.{arith}
-use Rattle.tunnels.proofs.Within.{printed-within}
+use Rattle.printed.proofs.Room.{printed-within}
 use borrow.Author.Needs.{needs}
 use Rattle.tunnels.proofs.write_total.Statement.{statement}
 use Rattle.tunnels.proofs.write_total.Tie as tie
