@@ -1,13 +1,9 @@
+use mathlib.Core.Path.{sym}
+use lib.Seq.{length-take-le}
+use Rattle.program.proofs.Used.{held}
 use borrow.Author.Needs.{needs}
 use Rattle.tunnels.proofs.write_text.Statement.{statement}
 use Rattle.tunnels.proofs.write_text.Tie as tie
-use Rattle.tunnels.proofs.write_text.Reads as reads
-use Rattle.tunnels.proofs.write_text.Lts as lts
-use Rattle.program.proofs.open.Reads as open-reads
-use Rattle.tunnels.proofs.page_room.Reads as page-room-reads
-use Rattle.tunnels.proofs.write_pages.Reads as write-pages-reads
-use Rattle.tunnels.proofs.write_refused.Reads as write-refused-reads
-use Rattle.tunnels.proofs.write_total.Reads as write-total-reads
 
 -- src/main.rt:57:9
 open-requires : tie.Need-open-requires
@@ -35,35 +31,35 @@ page-room-requires c κs = search needs
 
 -- src/main.rt:74:17
 array-share-prefix-paths : tie.Need-array-share-prefix-paths
-array-share-prefix-paths c = ?
+array-share-prefix-paths c = let k = c .before .before .before .before .before .before .before in held (k .before .before .«open» .ok) (k .before .before .«open» .ensures) (k .answer2 .given .1) .entries
 
 -- src/main.rt:74:17
 slice-aggregate-write-pages : tie.Need-slice-aggregate-write-pages
-slice-aggregate-write-pages c = ?
+slice-aggregate-write-pages c = sym (length-take-le _ _ (let k = c .before .before .before .before .before .before .before .before in held (k .before .before .«open» .ok) (k .before .before .«open» .ensures) (k .answer2 .given .1) .entries))
 
 -- src/main.rt:75:17
 array-share-prefix-table : tie.Need-array-share-prefix-table
-array-share-prefix-table c = ?
+array-share-prefix-table c = let k = c .before .before .before .before .before .before .before .before in held (k .before .before .«open» .ok) (k .before .before .«open» .ensures) (k .answer2 .given .1) .adapters
 
 -- src/main.rt:75:17
 slice-aggregate-write-pages-2 : tie.Need-slice-aggregate-write-pages-2
-slice-aggregate-write-pages-2 c = ?
+slice-aggregate-write-pages-2 c = sym (length-take-le _ _ (let k = c .before .before .before .before .before .before .before .before .before in held (k .before .before .«open» .ok) (k .before .before .«open» .ensures) (k .answer2 .given .1) .adapters))
 
 -- src/main.rt:76:17
 array-share-prefix-routes : tie.Need-array-share-prefix-routes
-array-share-prefix-routes c = ?
+array-share-prefix-routes c = let k = c .before .before .before .before .before .before .before .before .before in held (k .before .before .«open» .ok) (k .before .before .«open» .ensures) (k .answer2 .given .1) .routes
 
 -- src/main.rt:76:17
 slice-aggregate-write-pages-3 : tie.Need-slice-aggregate-write-pages-3
-slice-aggregate-write-pages-3 c = ?
+slice-aggregate-write-pages-3 c = sym (length-take-le _ _ (let k = c .before .before .before .before .before .before .before .before .before .before in held (k .before .before .«open» .ok) (k .before .before .«open» .ensures) (k .answer2 .given .1) .routes))
 
 -- src/main.rt:77:17
 array-share-prefix-marks : tie.Need-array-share-prefix-marks
-array-share-prefix-marks c = ?
+array-share-prefix-marks c = let k = c .before .before .before .before .before .before .before .before .before .before in held (k .before .before .«open» .ok) (k .before .before .«open» .ensures) (k .answer2 .given .1) .marks
 
 -- src/main.rt:77:17
 slice-aggregate-write-pages-4 : tie.Need-slice-aggregate-write-pages-4
-slice-aggregate-write-pages-4 c = ?
+slice-aggregate-write-pages-4 c = sym (length-take-le _ _ (let k = c .before .before .before .before .before .before .before .before .before .before .before in held (k .before .before .«open» .ok) (k .before .before .«open» .ensures) (k .answer2 .given .1) .marks))
 
 -- src/main.rt:78:17
 slice-aggregate-write-pages-5 : tie.Need-slice-aggregate-write-pages-5
