@@ -7,75 +7,57 @@ use borrow.Author.Needs.{needs}
 use Rattle.program.proofs.open_survey.Statement.{statement}
 use Rattle.program.proofs.open_survey.Tie as tie
 
--- src/lib.rt:68:16
 ours-requires : tie.Need-ours-requires
 ours-requires c κs = search needs
 
--- src/lib.rt:69:29
 slice-aggregate-load : tie.Need-slice-aggregate-load
 slice-aggregate-load c = search needs
 
--- src/lib.rt:69:9
 load-requires : tie.Need-load-requires
 load-requires c κs = search needs
 
--- src/lib.rt:76:29
 enum-known-answer : tie.Need-enum-known-answer
 enum-known-answer c = search needs
 
--- src/lib.rt:77:41
 numbers-of-requires : tie.Need-numbers-of-requires
 numbers-of-requires c κs = search needs
 
--- src/lib.rt:84:13
 enum-known-answer-2 : tie.Need-enum-known-answer-2
 enum-known-answer-2 c = search needs
 
--- src/lib.rt:89:17
 array-share-prefix-paths : tie.Need-array-share-prefix-paths
 array-share-prefix-paths c = let k = c .before in held _ _ _ _ _ (k .before .before .before .before .before .before .load .ok) (k .answer2 .given .1) (k .before .before .before .before .before .before .load .ensures .1) .entries
 
--- src/lib.rt:89:17
 slice-aggregate-try-all : tie.Need-slice-aggregate-try-all
 slice-aggregate-try-all c = sym (length-take-le _ _ (let k = c .before .before in held _ _ _ _ _ (k .before .before .before .before .before .before .load .ok) (k .answer2 .given .1) (k .before .before .before .before .before .before .load .ensures .1) .entries))
 
--- src/lib.rt:90:17
 array-share-prefix-table : tie.Need-array-share-prefix-table
 array-share-prefix-table c = let k = c .before .before in held _ _ _ _ _ (k .before .before .before .before .before .before .load .ok) (k .answer2 .given .1) (k .before .before .before .before .before .before .load .ensures .1) .adapters
 
--- src/lib.rt:90:17
 slice-aggregate-try-all-2 : tie.Need-slice-aggregate-try-all-2
 slice-aggregate-try-all-2 c = sym (length-take-le _ _ (let k = c .before .before .before in held _ _ _ _ _ (k .before .before .before .before .before .before .load .ok) (k .answer2 .given .1) (k .before .before .before .before .before .before .load .ensures .1) .adapters))
 
--- src/lib.rt:91:17
 array-share-prefix-routes : tie.Need-array-share-prefix-routes
 array-share-prefix-routes c = let k = c .before .before .before in held _ _ _ _ _ (k .before .before .before .before .before .before .load .ok) (k .answer2 .given .1) (k .before .before .before .before .before .before .load .ensures .1) .routes
 
--- src/lib.rt:91:17
 slice-aggregate-try-all-3 : tie.Need-slice-aggregate-try-all-3
 slice-aggregate-try-all-3 c = sym (length-take-le _ _ (let k = c .before .before .before .before in held _ _ _ _ _ (k .before .before .before .before .before .before .load .ok) (k .answer2 .given .1) (k .before .before .before .before .before .before .load .ensures .1) .routes))
 
--- src/lib.rt:92:17
 array-share-prefix-marks : tie.Need-array-share-prefix-marks
 array-share-prefix-marks c = let k = c .before .before .before .before in held _ _ _ _ _ (k .before .before .before .before .before .before .load .ok) (k .answer2 .given .1) (k .before .before .before .before .before .before .load .ensures .1) .marks
 
--- src/lib.rt:92:17
 slice-aggregate-try-all-4 : tie.Need-slice-aggregate-try-all-4
 slice-aggregate-try-all-4 c = sym (length-take-le _ _ (let k = c .before .before .before .before .before in held _ _ _ _ _ (k .before .before .before .before .before .before .load .ok) (k .answer2 .given .1) (k .before .before .before .before .before .before .load .ensures .1) .marks))
 
--- src/lib.rt:88:17
 try-all-requires : tie.Need-try-all-requires
 try-all-requires c κs = search needs
 
--- src/lib.rt:95:25
 answer-with-requires : tie.Need-answer-with-requires
 answer-with-requires c κs = search needs
 
--- src/lib.rt:65:1
 returns : tie.Need-returns
 returns c = not-loaded _ _ _ (c .before .before .before .before .before .before .before .before .before .before .ours .ensures) (c .before .before .before .before .before .before .before .before .load .ensures .0) _ (c .before .before .answer .given .1) _ (c .numbers-of .ensures) _ _ _ _
 
--- src/lib.rt:65:1
 returns-2 : tie.Need-returns-2
 returns-2 c = let k = c .before .before .before .before .before .before .before in let l = k .before .before .before .before .before .before in tried-all _ _ _ (l .before .before .ours .ensures) (l .load .ensures .0) _ _ _ (k .answer2 .given .1) (usable _ _ _ _ (k .answer2 .given .1) (l .load .ensures .1)) (held _ _ _ _ _ (l .load .ok) (k .answer2 .given .1) (l .load .ensures .1)) _ (c .before .try-all .ensures) _ (c .answer-with .ensures)
 

@@ -2,7 +2,6 @@ use Rattle.program.proofs.Opening.{placed-to}
 use Rattle.program.proofs.refused.Statement.{statement}
 use Rattle.program.proofs.refused.Tie as tie
 
--- src/lib.rt:35:1
 returns : tie.Need-returns
 returns c = placed-to _ _ _ _ _ _
 
