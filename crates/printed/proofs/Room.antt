@@ -98,8 +98,14 @@ tunnel-short : (w hop : ℕ) → length (tunnelLine w hop) ≤ 43
 unfolding tunnelLine bytesOf placeOf inAdapter least
 tunnel-short w hop =
     simp length-append
-    (omega (arith, type-short (w % 16), number-short 3 (hop / 65536 % 4096) (omega arith), number-short 2 (hop / 256 % 256) (omega arith), number-short 2 (w / 256 % 256) (omega arith),
-    shorter (eqb (w / 65536 % 2) 1) (bytesOf " closed\n") (bytesOf " open\n") 8 (omega arith) (omega arith)))
+    (omega (
+      arith,
+      type-short (w % 16),
+      number-short 3 (hop / 65536 % 4096) (omega arith),
+      number-short 2 (hop / 256 % 256) (omega arith),
+      number-short 2 (w / 256 % 256) (omega arith),
+      shorter (eqb (w / 65536 % 2) 1) (bytesOf " closed\n") (bytesOf " open\n") 8 (omega arith) (omega arith),
+    ))
 
 path-line-short : (w : ℕ) → length (pathLine w) ≤ 43
 unfolding pathLine bytesOf least

@@ -16,7 +16,7 @@ use Rattle.load.specs.declared.Loaded.{Loaded}
 use Rattle.load.specs.declared.Refusal.{Refusal}
 use Rattle.load.specs.declared.LoadAnswer.the-variants as loading
 use Rattle.load.proofs.Result.{refused-bind, load-refused, usable}
-use Rattle.refusals.specs.Told.{refusedAs}
+use Rattle.refusals.specs.Told.{refusedAs, valuesOf}
 use Rattle.refusals.specs.declared.Numbers.{Numbers}
 use Rattle.walk.specs.Tables.{rowsOf}
 use Rattle.devices.proofs.Laws.{Held}
@@ -51,7 +51,7 @@ refused-to o m en ad ro ma e = record { answers = e; usable = omega arith }
 
 -- one with a place
 pub placed-to : (n p : ℕ) (en ad ro ma : List ℕ) → OpensTo (refused n (p ∷ [])) (record { answer = answer.Refused (record { number = n; values = 1; first = p; second = 0 }); entries = en; adapters = ad; routes = ro; marks = ma })
-unfolding refusedAs foundIn bind
+unfolding refusedAs valuesOf foundIn bind
 placed-to n p en ad ro ma = refused-to (refused n (p ∷ [])) (record { number = n; values = 1; first = p; second = 0 }) en ad ro ma refl
 
 -- ---- a survey
@@ -60,7 +60,7 @@ placed-to n p en ad ro ma = refused-to (refused n (p ∷ [])) (record { number =
 module _ (r : Opened) (e a d : ℕ) where
   found : (o : Outcome (List (List ℕ))) (q : Tried) → triedOutcome q ≡ bind o (λ wss. value (totalOf wss))
       → openedBy r (answerWith e a d q) ≡ bind o (λ wss. value (record { rows = usedRows r e a d; tunnels = totalOf wss }))
-  unfolding triedOutcome openedBy answerWith refusedAs bind nothing
+  unfolding triedOutcome openedBy answerWith refusedAs valuesOf bind nothing
   found (refused k vs) (tried.Tunnels n) h = absurd (refused-value (sym h))
   found (value wss) (tried.Tunnels n) h = let z : n ≡ totalOf wss = cc in ap (λ i. value (record { rows = usedRows r e a d; tunnels = i })) z
   found (refused k vs) (tried.Refused m) h = ap (λ (y : Outcome ℕ). bind y (nothing {A = ℕ} {B = Found})) h
@@ -78,7 +78,7 @@ module _ (l : Loaded) (t s : List ℕ) (our : readDescriptions t ≡ value ours)
 
   pub not-loaded : (x : Refusal) → l .answer ≡ loading.Refused x → (m : Numbers) → refusedAs {A = ℕ} m ≡ refusedBy x → (en ad ro ma : List ℕ)
       → OpensTo (surveyed s) (record { answer = answer.Refused m; entries = en; adapters = ad; routes = ro; marks = ma })
-  unfolding foundIn refusedAs bind nothing
+  unfolding foundIn refusedAs valuesOf bind nothing
   not-loaded x g m f en ad ro ma =
       refused-to (surveyed s) m en ad ro ma
       (ap (λ (y : Outcome ℕ). bind y (nothing {A = ℕ} {B = Found})) f
