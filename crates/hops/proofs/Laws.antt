@@ -26,7 +26,8 @@ use Rattle.path.proofs.Writing.{length-path-words, refused-as}
 use Rattle.walks.specs.Calls.{single, pathAnswer, walkAnswer, WalkDone}
 use Rattle.hops.specs.Records.{recordsNeeded, withRecords, recordsBy, hopsOutcome, isPath}
 use Rattle.hops.specs.Calls.{hopsAnswer, HopsDone}
-use Rattle.hops.specs.Work.{filled, Ready}
+use Rattle.hops.specs.Records.{filled}
+use Rattle.hops.specs.Work.{Ready}
 use Rattle.hops.specs.declared.Hop.{Hop}
 use Rattle.hops.specs.declared.HopsAnswer.{HopsAnswer}
 use Rattle.hops.specs.declared.HopsAnswer.the-variants as answer

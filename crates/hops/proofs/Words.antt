@@ -18,7 +18,7 @@ use Rattle.walk.specs.Rule.{walkFrom}
 use Rattle.walk.proofs.Laws.{ranked, Hopped, hopped}
 use Rattle.path.specs.Words.{hopWords, hopsWords, pathWords, wordsNeeded, withPath}
 use Rattle.hops.specs.Records.{recordOf, withRecords}
-use Rattle.hops.specs.Work.{hopAt, filled}
+use Rattle.hops.specs.Records.{hopAt, filled}
 use Rattle.hops.specs.declared.Hop.{Hop}
 use Rattle.hops.proofs.Bounds.{Fits, AllFit, fit-append, entries-fit, entries-few}
 

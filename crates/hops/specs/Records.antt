@@ -1,10 +1,10 @@
 -- Document 01, the list of hop records: a single walk's hops as records. Assumes nothing.
-use Prim.Native.Nat.{ℕ}
+use Prim.Native.Nat.{ℕ, zero, suc, _+_, _*_, _-_, _/_, _%_}
 use mathlib.Core.Bool.{Bool, true, false, cond}
 use mathlib.Core.List.{List, [], _∷_, _++_, map}
 use mathlib.Core.Option.{Option, none, some}
 use lib.Dec.{ltb}
-use lib.ListN.{length, drop}
+use lib.ListN.{length, drop, getD, set}
 use Rattle.refusal.specs.Outcome.{Outcome, refused, value}
 use Rattle.tables.specs.Rows.{EntryRow}
 use Rattle.load.specs.Answers.{refusedBy}
@@ -41,3 +41,18 @@ isPath (answer.Path n) = true
 isPath answer.Absent = false
 isPath (answer.Short n) = false
 isPath (answer.Refused r) = false
+
+-- the record of hop i of a path's result words: a path word, then two words a hop; a place stands below the kind, 10
+unfoldable pub hopAt : List ℕ → ℕ → Hop
+hopAt ws i = record {
+  place = getD ws (1 + 2 * i) 0 / 65536 - 10 * 4096;
+  «in_adapter» = getD ws (1 + 2 * i) 0 / 256 % 256;
+  «in_hop» = getD ws (2 + 2 * i) 0 / 65536;
+  «out_adapter» = getD ws (1 + 2 * i) 0 % 256;
+  «out_hop» = getD ws (2 + 2 * i) 0 % 65536;
+}
+
+-- the first n records are those of the words, and the others as they were
+unfoldable pub filled : List ℕ → ℕ → List Hop → List Hop
+filled ws zero l = l
+filled ws (suc i) l = set (filled ws i l) i (hopAt ws i)

@@ -4,7 +4,8 @@ ghost use Prim.Native.Nat.{_/_, _-_, _≤_, _<_, _^_};
 ghost use lib.ListN.{length};
 ghost use Rattle.walk.specs.Walking.{Stand};
 ghost use Rattle.hops.specs.Calls.{HopsDone};
-ghost use Rattle.hops.specs.Work.{hopAt, filled, Ready};
+ghost use Rattle.hops.specs.Records.{hopAt, filled};
+ghost use Rattle.hops.specs.Work.{Ready};
 use load::Refusal;
 use path::WalkAnswer;
 

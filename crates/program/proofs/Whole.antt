@@ -1,9 +1,10 @@
 -- What is written for what opening a text answers is what the program prints. Assumes nothing.
 use Prim.Native.Nat.{ℕ, zero, suc, _<_}
 use native.Mathlib.Omega.{arith}
-use mathlib.Core.Path.{_≡_, refl, sym, ap, subst}
+use mathlib.Core.Path.{_≡_, refl, _∙_, sym, ap, subst}
 use mathlib.Core.List.{List, [], _∷_, _++_, map, flatten}
 use lib.ListN.{length, getD}
+use lib.Seq.{ext-getD}
 use Rattle.refusal.specs.Outcome.{Outcome, refused, value, bind}
 use Rattle.adapter.specs.Adapter.{AdapterRow}
 use Rattle.tables.specs.Rows.{Rows}
@@ -12,8 +13,8 @@ use Rattle.printed.specs.Printed.{linesOf, totalLine}
 use Rattle.report.specs.Report.{answerOf, answersOf, totalOf, pagesOf, reportOf}
 use Rattle.report.specs.Tables.{pageBy, pageAt}
 use Rattle.program.specs.Program.{rowsIn, said, programOf}
-use Rattle.program.specs.Opened.{openOf, openedBy, Opens}
-use Rattle.program.specs.Written.{Written}
+use Rattle.program.specs.Opened.{Found, openOf, openedBy, Opens}
+use Rattle.program.specs.Written.{Pages, Written}
 use Rattle.program.specs.declared.Opened.{Opened}
 
 -- the pages of adapters that were all tried
@@ -60,6 +61,24 @@ whole t = loading (rowsIn t)
     loading (refused n vs) = refl
     loading (value x) = trying x (answersOf x (x .adapters)) refl
 
+-- what is written is fixed by what opening answers
+same-pages : (f : Found) (s s′ : List ℕ) → Pages f s → Pages f s′ → s ≡ s′
+same-pages f s s′ p q =
+    let e : p .pages ≡ q .pages = ext-getD [] (p .pages) (q .pages) (p .all ∙ sym (q .all)) (λ k l. let a = p .each k l in let b = q .each k (omega (arith, p .all, q .all)) in cc) in
+    p .bytes ∙ ap (λ ps. totalLine (f .tunnels) ++ flatten ps) e ∙ sym (q .bytes)
+
+same-written : (o : Outcome Found) (s s′ : List ℕ) → Written o s → Written o s′ → s ≡ s′
+unfolding Written
+same-written (refused n vs) s s′ e f = e ∙ sym f
+same-written (value f) s s′ p q = same-pages f s s′ p q
+
+-- whoever writes the first line and then each page in order, or the refusal, writes what the program prints
+pub only : (t s : List ℕ) → Written (openOf t) s → s ≡ programOf t
+only t s h = same-written (openOf t) s (programOf t) h (whole t)
+
 -- of what the call answered
+pub opened-only : (t s : List ℕ) (o : Opened) → Opens t o → Written (openedBy o (o .answer)) s → s ≡ programOf t
+opened-only t s o h w = only t s (subst (λ f. Written f s) (h .answers) w)
+
 pub opened-whole : (t : List ℕ) (o : Opened) → Opens t o → Written (openedBy o (o .answer)) (programOf t)
 opened-whole t o h = subst (λ f. Written f (programOf t)) (sym (h .answers)) (whole t)

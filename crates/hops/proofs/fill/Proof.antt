@@ -51,7 +51,7 @@ use denote.Triple.Table.{entered, cited}
 use denote.Triple.Clauses.{ensured, lasts}
 use denote.Triple.Walked.{says, needs, Stays, stay-slice, stay-none, stay-none-slice, walkOf, goes-slice, goes-none, goes-none-slice, Walks, ends-at, walked, walk-meets}
 use denote.Exit.{yes}
-use Rattle.hops.specs.Work.{hopAt, filled}
+use Rattle.hops.specs.Records.{hopAt, filled}
 use Rattle.hops.specs.declared.Hop.{Hop}
 use Rattle.hops.proofs.Words.{length-filled}
 use Rattle.hops.proofs.Hop as T

@@ -49,7 +49,8 @@ use denote.Exit.{yes}
 use denote.Signature.{plain}
 use Rattle.walk.specs.Walking.{Stand}
 use Rattle.hops.specs.Calls.{HopsDone}
-use Rattle.hops.specs.Work.{filled, Ready}
+use Rattle.hops.specs.Records.{filled}
+use Rattle.hops.specs.Work.{Ready}
 use Rattle.hops.specs.declared.Hop.{Hop}
 use Rattle.hops.specs.declared.Walked.{Walked}
 use Rattle.hops.proofs.Hop as T
