@@ -26,9 +26,9 @@ use Rattle.report.specs.Tables.{Fits, triedOutcome, Tries}
 use Rattle.report.specs.declared.Tried.{Tried}
 use Rattle.report.specs.declared.Tried.the-variants as tried
 use Rattle.text.specs.Text.{surveyOf}
-use Rattle.program.specs.Program.{rowsIn}
-use Rattle.program.specs.Opened.{Found, openOf, usedRows, openedBy, Used, UsedBy, Opens}
-use Rattle.program.specs.Work.{surveyed, foundIn, OpensTo, answerWith}
+use Rattle.program.specs.Program.{surveyed, rowsIn}
+use Rattle.program.specs.Opened.{Found, foundIn, openOf, usedRows, openedBy, Used, UsedBy, Opens}
+use Rattle.program.specs.Work.{OpensTo, answerWith}
 use Rattle.program.specs.declared.Opened.{Opened}
 use Rattle.program.specs.declared.OpenAnswer.{OpenAnswer}
 use Rattle.program.specs.declared.OpenAnswer.the-variants as answer
@@ -37,7 +37,7 @@ use Rattle.program.specs.declared.OpenAnswer.the-variants as answer
 
 module _ (t : List ℕ) (r : Opened) where
   pub opens-refused : (n : ℕ) (vs : List ℕ) → surveyOf t ≡ refused n vs → OpensTo (refused n vs) r → Opens t r
-  unfolding openOf rowsIn foundIn bind
+  unfolding openOf rowsIn foundIn surveyed bind
   opens-refused n vs e h = record { answers = h .answers ∙ sym (ap (λ o. foundIn (bind o (λ s. bind (readSurvey s) (λ ds. loadFrom ours 0 ds)))) e); usable = h .usable }
 
   pub opens-words : (ws : List ℕ) → surveyOf t ≡ value ws → OpensTo (surveyed ws) r → Opens t r

@@ -13,7 +13,7 @@ use Rattle.printed.specs.Printed.{linesOf, totalLine}
 use Rattle.report.specs.Report.{answerOf, answersOf, totalOf, pagesOf, reportOf}
 use Rattle.report.specs.Tables.{pageBy, pageAt}
 use Rattle.program.specs.Program.{rowsIn, said, programOf}
-use Rattle.program.specs.Opened.{Found, openOf, openedBy, Opens}
+use Rattle.program.specs.Opened.{Found, foundIn, openOf, openedBy, Opens}
 use Rattle.program.specs.Written.{Pages, Written}
 use Rattle.program.specs.declared.Opened.{Opened}
 
@@ -44,7 +44,7 @@ joined (ws ∷ wss) = ap (λ s. linesOf ws ++ s) (joined wss)
 
 -- the first line and then each page in order, or the refusal
 pub whole : (t : List ℕ) → Written (openOf t) (programOf t)
-unfolding openOf programOf said reportOf pageAt Written bind
+unfolding openOf foundIn programOf said reportOf pageAt Written bind
 whole t = loading (rowsIn t)
   where
     trying : (x : Rows) (o : Outcome (List (List ℕ))) → answersOf x (x .adapters) ≡ o

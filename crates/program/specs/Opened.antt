@@ -19,8 +19,11 @@ pub record Found : Type 0 where
   pub rows : Rows
   pub tunnels : ℕ
 
+unfoldable pub foundIn : Outcome Rows → Outcome Found
+foundIn o = bind o (λ x. bind (answersOf x (x .adapters)) (λ wss. value (record { rows = x; tunnels = totalOf wss })))
+
 unfoldable pub openOf : List ℕ → Outcome Found
-openOf t = bind (rowsIn t) (λ x. bind (answersOf x (x .adapters)) (λ wss. value (record { rows = x; tunnels = totalOf wss })))
+openOf t = foundIn (rowsIn t)
 
 -- the parts of the tables that are used
 unfoldable pub usedRows : Opened → ℕ → ℕ → ℕ → Rows

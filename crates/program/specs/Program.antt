@@ -10,9 +10,13 @@ use Rattle.text.specs.Text.{surveyOf}
 use Rattle.printed.specs.Printed.{refusedLine}
 use Rattle.report.specs.Report.{reportOf}
 
--- a text's survey, loaded under our descriptions: length, then 1, then 4, then loading
+-- a survey's rows under our descriptions
+unfoldable pub surveyed : List ℕ → Outcome Rows
+surveyed s = bind (readSurvey s) (λ ds. loadFrom ours 0 ds)
+
+-- a text's: length, then 1, then 4, then loading
 unfoldable pub rowsIn : List ℕ → Outcome Rows
-rowsIn t = bind (surveyOf t) (λ s. bind (readSurvey s) (λ ds. loadFrom ours 0 ds))
+rowsIn t = bind (surveyOf t) surveyed
 
 -- a refusal is printed by its number alone
 unfoldable pub said : Outcome (List ℕ) → List ℕ

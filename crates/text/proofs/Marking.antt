@@ -19,6 +19,7 @@ use Rattle.register.specs.declared.Register.{Register}
 use Rattle.register.specs.declared.Met.{Met}
 use Rattle.register.specs.declared.Met.the-variants as met
 use Rattle.groups.specs.Group.{groupOf, words}
+use Rattle.dump.proofs.Groups.{Whole, Whole.empty, Whole.group, whole}
 use Rattle.dump.specs.Sort.{insert, sort}
 use Rattle.dump.specs.Dump.{offset, withRecord, recordsOf as dumpRecords, recordsIn, dumpWords}
 use Rattle.text.specs.Text.{pathGroup}
@@ -33,26 +34,14 @@ head-set out i a b c d m s h e =
 
 pub record Marks (old out : List ℕ) (i : ℕ) : Type 0 where
   pub long : length out ≡ length old
-  pub whole : length old % 4 ≡ 0
+  pub fours : length old % 4 ≡ 0
   pub by : i % 4 ≡ 0
   pub within : i ≤ length old
   pub same : drop i out ≡ drop i old
   pub rest : take i out ++ marked (drop i old) ≡ marked old
 
 pub marks-start : (old : List ℕ) → length old % 4 ≡ 0 → Marks old old 0
-marks-start old h = record { long = refl; whole = h; by = refl; within = omega arith; same = refl; rest = refl }
-
--- whole groups from i on: none, or one and more
-data Whole : List ℕ → Type 0 where
-  empty : Whole []
-  group : (a b c d : ℕ) (s : List ℕ) → Whole (a ∷ b ∷ c ∷ d ∷ s)
-
-whole-of : (s : List ℕ) → length s % 4 ≡ 0 → Whole s
-whole-of [] h = empty
-whole-of (a ∷ []) h = absurd (omega arith)
-whole-of (a ∷ b ∷ []) h = absurd (omega arith)
-whole-of (a ∷ b ∷ c ∷ []) h = absurd (omega arith)
-whole-of (a ∷ b ∷ c ∷ d ∷ s) h = group a b c d s
+marks-start old h = record { long = refl; fours = h; by = refl; within = omega arith; same = refl; rest = refl }
 
 module _ (old out : List ℕ) (i : ℕ) (m : Marks old out i) where
   -- one group more
@@ -69,7 +58,7 @@ module _ (old out : List ℕ) (i : ℕ) (m : Marks old out i) where
       let o : drop (i + 4) old ≡ s = sym (drop-drop 4 i old) ∙ ap (λ l. drop 4 l) e in
       record {
         long = length-set out i _ ∙ m .long;
-        whole = m .whole;
+        fours = m .fours;
         by = omega (arith, m .by);
         within = omega (arith, ap length e, length-drop i old);
         same = ap (λ l. drop (i + 4) l) (p ∙ q) ∙ drop-at (take i out ++ (x ∷ b ∷ c ∷ d ∷ [])) s (i + 4) n ∙ sym o;
@@ -81,7 +70,7 @@ module _ (old out : List ℕ) (i : ℕ) (m : Marks old out i) where
       }
 
   pub marks-step : i < length old → Marks old (set out i (0x50010000 + getD out i 0 % 65536)) (i + 4)
-  marks-step h = step (whole-of (drop i old) (omega (arith, m .whole, m .by, m .within, length-drop i old))) refl h
+  marks-step h = step (whole (drop i old) (omega (arith, m .fours, m .by, m .within, length-drop i old))) refl h
 
   pub marks-end : length old ≤ i → out ≡ marked old
   unfolding marked

@@ -2,7 +2,7 @@
 use Prim.Native.Nat.{ℕ}
 use Prim.Native.String.{String}
 use mathlib.Core.Path.{_≡_, refl}
-use mathlib.Core.List.{List, [], _∷_, map}
+use mathlib.Core.List.{List, [], _∷_}
 use Rattle.refusal.specs.Outcome.{Outcome, refused, value, bind}
 use Rattle.util.specs.Number.{digitOf, afterPrefix, afterPlus, valueOf, allDigits, numberOf, hexNumber, decimalNumber}
 use Rattle.util.specs.Text.{bytesOf}
@@ -12,7 +12,7 @@ use Rattle.groups.specs.Group.{groupOf, words}
 use Rattle.dump.specs.Sort.{insert, sort}
 use Rattle.markers.specs.Markers.{isMarker, same, plainMarker, adapterBy, adapterMarker, withNumber, deviceMarker, byTokens as markerBy, markerOf}
 use Rattle.grammar.specs.Grammar.{itemBy, itemOf, toUsb4, toRegs, toAdapter, toPaths, stepOf, inDump, itemStep, markerSize, itemSize, checkBy, checkFrom, itemsOf, inLimit, checkAnswer}
-use Rattle.text.specs.Text.{recordsOf, sectionsOf, markNumber, next, past, bit, deviceHead, pathMark, adapterHead, pathGroup, deviceWords, markerWords, surveyWords, surveyOf}
+use Rattle.text.specs.Text.{recordsOf, sectionsOf, isUsb4, isRegs, pathMark, nextIs, nextPath, past, bit, deviceHead, adapterHead, pathGroup, deviceWords, markerWords, surveyWords, surveyOf}
 
 pub record Case : Type 0 where
   pub text : String
@@ -64,5 +64,5 @@ AllRight [] = _≡_ {A = ℕ} 0 0
 AllRight (c ∷ cs) = Right c × AllRight cs
 
 pub small : AllRight cases
-unfolding AllRight Right cases says four bytesOf bind digitOf afterPrefix afterPlus valueOf allDigits numberOf hexNumber decimalNumber isSpace isLineFeed isHigh before placeFrom onFirst pieces filled tokens ended lines isComment withToken registerOf fourTokens fiveTokens byTokens meaning groupOf words insert sort isMarker same plainMarker adapterBy adapterMarker withNumber deviceMarker markerBy markerOf itemBy itemOf toUsb4 toRegs toAdapter toPaths stepOf inDump itemStep markerSize itemSize checkBy checkFrom itemsOf inLimit checkAnswer recordsOf sectionsOf markNumber next past bit deviceHead pathMark adapterHead pathGroup deviceWords markerWords surveyWords surveyOf
+unfolding AllRight Right cases says four bytesOf bind digitOf afterPrefix afterPlus valueOf allDigits numberOf hexNumber decimalNumber isSpace isLineFeed isHigh before placeFrom onFirst pieces filled tokens ended lines isComment withToken registerOf fourTokens fiveTokens byTokens meaning groupOf words insert sort isMarker same plainMarker adapterBy adapterMarker withNumber deviceMarker markerBy markerOf itemBy itemOf toUsb4 toRegs toAdapter toPaths stepOf inDump itemStep markerSize itemSize checkBy checkFrom itemsOf inLimit checkAnswer recordsOf sectionsOf isUsb4 isRegs pathMark nextIs nextPath past bit deviceHead adapterHead pathGroup deviceWords markerWords surveyWords surveyOf
 small = (refl, (refl, (refl, (refl, (refl, (refl, (refl, (refl, (refl, (refl, (refl, (refl, (refl, (refl, (refl, (refl, (refl, (refl, (refl, (refl, (refl, refl)))))))))))))))))))))

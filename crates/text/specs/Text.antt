@@ -3,7 +3,7 @@ use Prim.Native.Nat.{ℕ, _+_, _*_, _/_, _%_}
 use mathlib.Core.Path.{_≡_}
 use mathlib.Core.Bool.{Bool, true, false, cond}
 use mathlib.Core.List.{List, [], _∷_, _++_, map}
-use lib.Dec.{ltb, eqb}
+use lib.Dec.{ltb}
 use lib.ListN.{length, drop}
 use Rattle.refusal.specs.Outcome.{Outcome, refused, value, bind}
 use Rattle.register.specs.declared.Register.{Register}
@@ -33,25 +33,50 @@ sectionsOf (marker m ∷ is) = record { head = m; records = recordsOf is } ∷ s
 sectionsOf (record′ r ∷ is) = sectionsOf is
 sectionsOf (other ∷ is) = sectionsOf is
 
--- what a marker says in the head before it: USB4 1, registers read 2, path dump read 3, missing 4; any other 0
-unfoldable pub markNumber : Marker → ℕ
-markNumber (router d r) = 0
-markNumber (xdomain d r) = 0
-markNumber usb4 = 1
-markNumber regs = 2
-markNumber (adapter n) = 0
-markNumber paths = 3
-markNumber noPaths = 4
-markNumber bad = 0
+-- what the markers after a head say of it
+unfoldable pub isUsb4 : Marker → Bool
+isUsb4 (router d r) = false
+isUsb4 (xdomain d r) = false
+isUsb4 usb4 = true
+isUsb4 regs = false
+isUsb4 (adapter n) = false
+isUsb4 paths = false
+isUsb4 noPaths = false
+isUsb4 bad = false
 
-unfoldable pub next : List Section → ℕ
-next [] = 0
-next (s ∷ ss) = markNumber (s .head)
+unfoldable pub isRegs : Marker → Bool
+isRegs (router d r) = false
+isRegs (xdomain d r) = false
+isRegs usb4 = false
+isRegs regs = true
+isRegs (adapter n) = false
+isRegs paths = false
+isRegs noPaths = false
+isRegs bad = false
 
--- the sections after the next, if it has that mark
-unfoldable pub past : ℕ → List Section → List Section
-past k [] = []
-past k (s ∷ ss) = cond (eqb (markNumber (s .head)) k) ss (s ∷ ss)
+-- a path dump: read 1, looked for and missing 2
+unfoldable pub pathMark : Marker → ℕ
+pathMark (router d r) = 0
+pathMark (xdomain d r) = 0
+pathMark usb4 = 0
+pathMark regs = 0
+pathMark (adapter n) = 0
+pathMark paths = 1
+pathMark noPaths = 2
+pathMark bad = 0
+
+unfoldable pub nextIs : (Marker → Bool) → List Section → Bool
+nextIs p [] = false
+nextIs p (s ∷ ss) = p (s .head)
+
+unfoldable pub nextPath : List Section → ℕ
+nextPath [] = 0
+nextPath (s ∷ ss) = pathMark (s .head)
+
+-- the sections after the next, if its marker is such a one
+unfoldable pub past : (Marker → Bool) → List Section → List Section
+past p [] = []
+past p (s ∷ ss) = cond (p (s .head)) ss (s ∷ ss)
 
 unfoldable pub bit : Bool → ℕ
 bit true = 1
@@ -59,14 +84,11 @@ bit false = 0
 
 -- a device: its kind, USB4, registers read
 unfoldable pub deviceHead : ℕ → List Section → ℕ
-deviceHead kind ss = 3 * 268435456 + kind * 16777216 + 2 * bit (eqb (next (past 1 ss)) 2) + bit (eqb (next ss) 1)
+deviceHead kind ss = 3 * 268435456 + kind * 16777216 + 2 * bit (nextIs isRegs (past isUsb4 ss)) + bit (nextIs isUsb4 ss)
 
 -- an adapter: its number, registers read, path dump read or missing
-unfoldable pub pathMark : ℕ → ℕ
-pathMark k = cond (eqb k 3) 1 (cond (eqb k 4) 2 0)
-
 unfoldable pub adapterHead : ℕ → List Section → ℕ
-adapterHead n ss = 4 * 268435456 + 512 * pathMark (next (past 2 ss)) + 256 * bit (eqb (next ss) 2) + n
+adapterHead n ss = 4 * 268435456 + 512 * nextPath (past isRegs ss) + 256 * bit (nextIs isRegs ss) + n
 
 -- a path dump's records have bit 16
 unfoldable pub pathGroup : Register → Group

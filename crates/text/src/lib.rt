@@ -5,8 +5,8 @@ ghost use Prim.Native.Nat.{_+_, _*_, _%_, _≤_, _<_, ℕ};
 ghost use lib.Dec.{eqb};
 ghost use lib.ListN.{length, drop};
 ghost use Rattle.dump.specs.Dump.{dumpWords};
-ghost use Rattle.text.specs.Text.{next, bit, deviceHead, pathMark, adapterHead, deviceWords, surveyWords, TextDone};
-ghost use Rattle.text.specs.Work.{sectionsFrom, Stands, Low, Skipped, NextLine, PastMark, pathWords, bodyWords, PutAt, marked};
+ghost use Rattle.text.specs.Text.{bit, deviceHead, adapterHead, deviceWords, surveyWords, TextDone};
+ghost use Rattle.text.specs.Work.{sectionsFrom, Stands, Low, nextMark, pathBy, Skipped, NextLine, PastMark, pathWords, bodyWords, PutAt, marked};
 use dump::Dump;
 use grammar::Checked;
 use grammar::MOST_WORDS;
@@ -53,7 +53,7 @@ fn after_line(text: &[u8], end: usize) -> usize
 // What the marker line at a place says in the head before it: USB4 1, registers read 2, path dump read 3, missing 4; any other 0, and at the end.
 fn mark_at(text: &[u8], at: usize) -> u32
     requires { ⌜ Stands (now text) at ⌝ }
-    ensures { λ r. ⌜ r ≡ next (sectionsFrom (now (text .entry)) at) ⌝ }
+    ensures { λ r. ⌜ r ≡ nextMark (sectionsFrom (now (text .entry)) at) ⌝ }
 {
     if text.len() <= at {
         return 0;
@@ -104,7 +104,7 @@ fn weight_of(mark: u32, sought: u32, weight: u32) -> u32
 
 // An adapter's path dump: read, missing, or neither.
 fn path_mark(mark: u32) -> u32
-    ensures { λ r. ⌜ (r ≡ pathMark mark) × (r ≤ 2) ⌝ }
+    ensures { λ r. ⌜ (r ≡ pathBy mark) × (r ≤ 2) ⌝ }
 {
     if mark == 3 {
         return 1;

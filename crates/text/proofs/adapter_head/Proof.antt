@@ -1,6 +1,7 @@
 use native.Mathlib.Omega.{arith}
 use lib.Dec.{eqb}
-use Rattle.text.specs.Text.{bit, pathMark}
+use Rattle.text.specs.Text.{bit}
+use Rattle.text.specs.Work.{pathBy}
 use Rattle.text.proofs.Sections.{adapter-is, bit-le}
 use mathlib.Core.Path.{_∙_, ap}
 use Prim.Native.Nat.{_*_}
@@ -46,7 +47,7 @@ add-result-3 c = omega (arith, c .path-mark .ensures .1, c .before .before .befo
 
 -- src/lib.rt:128:1
 returns : tie.Need-returns
-returns c = let k = c .before .before .before in adapter-is _ _ _ _ _ (c .before .before .past-mark .ensures .sections) (k .weight-of .ensures ∙ ap (λ m. 256 * bit (eqb m 2)) (k .before .mark-at .ensures)) (c .path-mark .ensures .0 ∙ ap pathMark (c .before .mark-at2 .ensures))
+returns c = let k = c .before .before .before in adapter-is _ _ _ _ _ (c .before .before .past-mark .ensures .sections) (k .weight-of .ensures ∙ ap (λ m. 256 * bit (eqb m 2)) (k .before .mark-at .ensures)) (c .path-mark .ensures .0 ∙ ap pathBy (c .before .mark-at2 .ensures))
 
 pub adapter-head-spec : {M : Type 1} → statement M
 adapter-head-spec =

@@ -4,7 +4,7 @@ use denote.Ref.{now}
 use Rattle.scan.specs.Scan.{isLineFeed}
 use Rattle.scan.proofs.Laws.{place-above, place-within}
 use Rattle.markers.specs.Markers.{markerBy}
-use Rattle.text.specs.Text.{markNumber}
+use Rattle.text.specs.Work.{markNumber}
 use Rattle.text.proofs.Sections.{next-end, mark-here}
 use borrow.Author.Needs.{needs}
 use Rattle.text.proofs.mark_at.Statement.{statement}

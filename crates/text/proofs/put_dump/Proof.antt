@@ -1,6 +1,5 @@
 use Rattle.text.proofs.Dumps.{record-room, dump-put, no-high, no-short}
 use mathlib.Core.Path.{sym}
-use Prim.Native.Nat.{_+_}
 use denote.Ref.{now}
 use native.Mathlib.Omega.{arith}
 use lib.Seq.{length-take-le}
