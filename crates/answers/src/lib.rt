@@ -1,0 +1,176 @@
+// What the exported calls answer, in eight words: the calls on numbers, lines, dumps, words and texts.
+ghost use mathlib.Core.Path.{_≡_};
+ghost use Prim.Native.Nat.{_≤_};
+ghost use mathlib.Core.List.{[], _∷_, _++_};
+ghost use lib.ListN.{length, drop};
+ghost use mathlib.Core.Option.{some};
+ghost use Rattle.refusal.specs.Outcome.{refused as refusal, value};
+ghost use Rattle.register.specs.Line.{lineOutcome};
+ghost use Rattle.dump.specs.Dump.{dumpOutcome};
+ghost use Rattle.description.specs.Rules.{checkedOutcome};
+ghost use Rattle.survey.specs.Rules.{checkedOutcome as surveyOutcome};
+ghost use Rattle.metadata.specs.Calls.{describedOutcome, fieldOutcome};
+ghost use Rattle.text.specs.Text.{textOutcome};
+ghost use Rattle.answers.specs.Said.{HandedOut, OursSaid, said, always, perhaps, one, bare, registerWords, hexOfBits, numberOutcome};
+use dump::Dump;
+use metadata::Described;
+use metadata::FieldValue;
+use register::Line;
+use text::TextAnswer;
+use util::Number;
+
+// Of a refusal by its number and one value.
+fn refused(number: u64, place: usize) -> [u64; 8]
+    ensures { λ r. ⌜ r ≡ said (refusal number (place ∷ [])) ⌝ }
+{
+    [number, place as u64, 0, 0, 0, 0, 0, 0]
+}
+
+// A result of one number.
+fn result(n: u64) -> [u64; 8]
+    ensures { λ r. ⌜ r ≡ said (value (some (one n))) ⌝ }
+{
+    [0, 1, n, 0, 0, 0, 0, 0]
+}
+
+// A hex number of 16, 32 or 64 bits, as a number; none for any other width.
+fn hex_of_bits(text: &[u8], bits: u32) -> Number
+    ensures { λ r. ⌜ r ≡ hexOfBits bits (now (text .entry)) ⌝ }
+{
+    if bits == 16 {
+        return util::parse_hex(text, util::MAX_16);
+    }
+    if bits == 32 {
+        return util::parse_hex(text, util::MAX_32);
+    }
+    if bits == 64 {
+        return util::parse_hex(text, util::MAX_64);
+    }
+    Number::None
+}
+
+// A hex number of 16, 32 or 64 bits.
+pub fn hex(text: &[u8], bits: u32) -> [u64; 8]
+    ensures { λ r. ⌜ r ≡ said (perhaps one (numberOutcome (hexOfBits bits (now (text .entry))))) ⌝ }
+{
+    match hex_of_bits(text, bits) {
+        Number::Value(v) => result(v),
+        Number::None => [0; 8],
+    }
+}
+
+// A line's record, or none.
+pub fn line(answer: Line) -> [u64; 8]
+    ensures { λ r. ⌜ r ≡ said (perhaps registerWords (lineOutcome answer)) ⌝ }
+{
+    match answer {
+        Line::Record(r) => [
+            0,
+            1,
+            r.offset as u64,
+            r.relative_offset as u64,
+            r.cap_id as u64,
+            r.vs_cap_id as u64,
+            r.value as u64,
+            0,
+        ],
+        Line::None => [0; 8],
+        Line::NotAscii(p) => refused(1, p),
+    }
+}
+
+// A dump's number of records.
+pub fn dump(answer: Dump) -> [u64; 8]
+    ensures { λ r. ⌜ r ≡ said (always one (dumpOutcome answer)) ⌝ }
+{
+    match answer {
+        Dump::Records(n) => result(n as u64),
+        Dump::NotAscii(p) => refused(1, p),
+        Dump::Short(n) => refused(2, n),
+    }
+}
+
+// Whether description words are well formed.
+pub fn descriptions(answer: description::Checked) -> [u64; 8]
+    ensures { λ r. ⌜ r ≡ said (always bare (checkedOutcome answer)) ⌝ }
+{
+    match answer {
+        description::Checked::WellFormed => [0, 1, 0, 0, 0, 0, 0, 0],
+        description::Checked::Refused(p) => refused(3, p),
+    }
+}
+
+// Whether survey words are well formed.
+pub fn survey(answer: survey::Checked) -> [u64; 8]
+    ensures { λ r. ⌜ r ≡ said (always bare (surveyOutcome answer)) ⌝ }
+{
+    match answer {
+        survey::Checked::WellFormed => [0, 1, 0, 0, 0, 0, 0, 0],
+        survey::Checked::Refused(p) => refused(4, p),
+    }
+}
+
+// The head place of the group that names a register, or none.
+pub fn described(answer: Described) -> [u64; 8]
+    ensures { λ r. ⌜ r ≡ said (perhaps one (describedOutcome answer)) ⌝ }
+{
+    match answer {
+        Described::Group(p) => result(p as u64),
+        Described::Nameless => [0; 8],
+        Described::Refused(p) => refused(3, p),
+    }
+}
+
+// A field's value.
+pub fn field(answer: FieldValue) -> [u64; 8]
+    ensures { λ r. ⌜ r ≡ said (always one (fieldOutcome answer)) ⌝ }
+{
+    match answer {
+        FieldValue::Value(v) => result(v as u64),
+        FieldValue::Refused(p) => refused(3, p),
+        FieldValue::NoField => [6, 0, 0, 0, 0, 0, 0, 0],
+    }
+}
+
+// The number of a text's survey words.
+pub fn text(answer: TextAnswer) -> [u64; 8]
+    ensures { λ r. ⌜ r ≡ said (always one (textOutcome answer)) ⌝ }
+{
+    match answer {
+        TextAnswer::Words(n) => result(n as u64),
+        TextAnswer::Short(n) => refused(2, n),
+        TextAnswer::NotAscii(p) => refused(1, p),
+        TextAnswer::Wrong(p) => refused(4, p),
+    }
+}
+
+// Puts all words of a list at the front of another that has room for them.
+fn copy(from: &[u32], to: &mut [u32])
+    requires { ⌜ length (now from) ≤ length (now to) ⌝ }
+    ensures { λ r. ⌜ now (to .exit) ≡ now (from .entry) ++ drop (length (now (from .entry))) (now (to .entry)) ⌝ }
+{
+    let mut i: usize = 0;
+    while i < from.len() {
+        to[i] = from[i];
+        i += 1;
+    }
+}
+
+// Puts all words of a list at the front of another, if it has room for them, and says how many there are.
+fn put(from: &[u32], to: &mut [u32]) -> [u64; 8]
+    ensures { λ r. ⌜ HandedOut (now (from .entry)) (now (to .entry)) (now (to .exit)) r ⌝ }
+{
+    if to.len() < from.len() {
+        return refused(2, from.len());
+    }
+    copy(from, to);
+    result(from.len() as u64)
+}
+
+// Our descriptions, put at the front of the output.
+pub fn our_descriptions(output: &mut [u32]) -> [u64; 8]
+    ensures { λ r. ⌜ OursSaid (now (output .entry)) (now (output .exit)) r ⌝ }
+{
+    let ours = metadata::ours();
+    put(&ours, output)
+}
