@@ -7,10 +7,13 @@ use Rattle.named.proofs.by_name.Statement.{statement}
 use Rattle.named.proofs.by_name.Tie as tie
 
 abbrev Inv-loop : tie.InvT-loop
-Inv-loop descriptions survey from space kind name i₀ i = laws.Seeking descriptions space kind name survey from i
+Inv-loop descriptions survey from space kind name o i₀ i = laws.Seeking descriptions space kind name survey from i
 
 abbrev μ-loop : tie.MeasureT-loop
-μ-loop descriptions survey from space kind name i₀ i = length survey - i
+μ-loop descriptions survey from space kind name o i₀ i = length survey - i
+
+offsets-named-requires : tie.Need-offsets-named-requires Inv-loop μ-loop
+offsets-named-requires c κs = search needs
 
 next-register-requires : tie.Need-next-register-requires Inv-loop μ-loop
 next-register-requires c κs = search needs
@@ -31,7 +34,7 @@ word-at-requires-2 : tie.Need-word-at-requires-2 Inv-loop μ-loop
 word-at-requires-2 c κs = search needs
 
 name-group-requires : tie.Need-name-group-requires Inv-loop μ-loop
-name-group-requires c κs = search needs
+name-group-requires c κs = c .before .before .before .before .before .offsets-named .ensures
 
 enum-known-found : tie.Need-enum-known-found Inv-loop μ-loop
 enum-known-found c = search needs
@@ -65,6 +68,7 @@ by-name-spec =
     (tie.spec
     Inv-loop
     μ-loop
+    offsets-named-requires
     next-register-requires
     loop-holds
     add-word-at
