@@ -150,6 +150,7 @@ fn adapters() {
         assert_eq!(walk(&d, &s, place, number, u16::MAX, &mut []), Err(Refusal::Missing));
         assert_eq!(discover(&d, &s, place, number, &mut []).unwrap_err(), Refusal::Missing);
     }
+    assert_eq!(parent(&d, &s, usize::MAX), Err(Refusal::Missing));
     assert_eq!(walk(&d, &s, 0, 1, u16::MAX, &mut []), Ok(None));
     d[33] ^= 1; // Current Link Speed by another name
     assert_eq!(link_speed(&d, &s, 0, 1), Err(Refusal::NoField(Some(site(0, 1)))));
@@ -164,6 +165,12 @@ fn walks() {
     assert_eq!(from(router("0", "4100") + &lane("80000808")), Refusal::NoParentRoute(site(0, 1)));
     assert_eq!(from(router("100000000000000", "4000") + &lane("80000808")), Refusal::NoDownstreamRoute(site(0, 1)));
     assert_eq!(from(router("0", "4000") + &lane("80000808") + &router("1", "4100") + &lane("80000808")), Refusal::Endless);
+    let s = survey(&(router("0", "4000") + &read(1, "100101") + "@paths\nfffe 0 8 80000fff\n"));
+    let mut output = [0; 3];
+    let path = walk(&d, &s, 0, 1, 32_767, &mut output).unwrap().unwrap();
+    let hop = Hop { place: 0, in_adapter: 1, in_hop: 32_767, out_adapter: 1, out_hop: 2047 };
+    assert_eq!(path.hops().collect::<Vec<_>>(), [hop]);
+    assert_eq!(walk(&d, &s, 0, 1, 4095, &mut output), Ok(None));
     let s = survey("@xdomain 0 0\n");
     assert_eq!(parent(&d, &s, 0), Err(Refusal::NoParentRoute(site(0, 0))));
 }
