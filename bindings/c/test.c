@@ -516,6 +516,13 @@ static void test_walks(void)
     discover(0, 1), NONE();
     max_hop(0, 2), RESULT(0);
     discover(0, 2), RESULT(0);
+
+    /* a ring of a host interface, to and from an xdomain */
+    TEXT(ROUTER("0", "8000") ADAPTER("1", "1") "5 5 0 0 10\n" PATHS "80001001\n" ADAPTER("2", "2") "5 5 0 0 2\n" "@paths\n2 0 1 80000808\n" "@xdomain 0 1\n");
+    static const uint32_t dma[7] = {0x80010203, 0x90070001, 0xa0000201, 0x10008, 0x90080001, 0xa0000102, 0x80001};
+    tunnels_discover(BOTH, 0, 2, output, 7, answer()), RESULT(7);
+    CHECK(memcmp(output, dma, sizeof dma) == 0 && unchanged(output, 7, 32));
+    parent(1), RESULT(0);
 }
 
 /* ---- document 01's worked example, and three routers deep */
