@@ -30,6 +30,10 @@ module _ (p : ℕ → Bool) (s : List ℕ) (i : ℕ) where
   unfolding placeFrom before
   place-end h = rw (drop-of-length-le s h) (omega arith)
 
+pub space-above : (b : ℕ) → 32 < b → false ≡ isSpace b
+unfolding isSpace
+space-above b h = simp (ne-eqb b 9 (λ e. omega (arith, e)), ne-eqb b 10 (λ e. omega (arith, e)), ne-eqb b 12 (λ e. omega (arith, e)), ne-eqb b 13 (λ e. omega (arith, e)), ne-eqb b 32 (λ e. omega (arith, e)))
+
 pub space-last : (b : ℕ) → (b ≡ 9 → ⊥) → (b ≡ 10 → ⊥) → (b ≡ 12 → ⊥) → (b ≡ 13 → ⊥) → eqb b 32 ≡ isSpace b
 unfolding isSpace
 space-last b h1 h2 h3 h4 = simp (ne-eqb b 9 h1, ne-eqb b 10 h2, ne-eqb b 12 h3, ne-eqb b 13 h4)

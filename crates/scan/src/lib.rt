@@ -1,4 +1,7 @@
+ghost use Prim.Native.Nat.{_<_};
 ghost use mathlib.Core.Path.{_≡_};
+ghost use mathlib.Core.Bool.{false};
+ghost use lib.ListN.{length};
 ghost use Rattle.scan.specs.Scan.{isSpace, isNot, isLineFeed, isHigh, placeFrom, TokenAt};
 
 // A part of a text, from `start` up to `end`; empty where there is none.
@@ -11,6 +14,9 @@ pub struct Span {
 fn is_space(b: u8) -> bool
     ensures { λ r. ⌜ r ≡ isSpace b ⌝ }
 {
+    if 32 < b {
+        return false;
+    }
     if b == 9 {
         return true;
     }
@@ -77,10 +83,33 @@ pub fn line_end(s: &[u8], at: usize) -> usize
     i
 }
 
+// 1 for a byte above 127.
+fn high(b: u8) -> usize
+    ensures { λ r. ⌜ (r < 2) × (r ≡ 0 → isHigh b ≡ false) ⌝ }
+{
+    (b / 128) as usize
+}
+
+// How many bytes are above 127: one pass that never stops early, so that it takes many bytes at a time.
+fn highs(s: &[u8]) -> usize
+    ensures { λ r. ⌜ (r ≡ 0 → placeFrom isHigh (now (s .entry)) 0 ≡ length (now (s .entry))) ⌝ }
+{
+    let mut n: usize = 0;
+    let mut i: usize = 0;
+    while i < s.len() {
+        n += high(s[i]);
+        i += 1;
+    }
+    n
+}
+
 // The place of the first byte above 127, or the length.
 pub fn first_high(s: &[u8]) -> usize
     ensures { λ r. ⌜ r ≡ placeFrom isHigh (now (s .entry)) 0 ⌝ }
 {
+    if highs(s) == 0 {
+        return s.len();
+    }
     let mut i = 0;
     while i < s.len() {
         if 127 < s[i] {

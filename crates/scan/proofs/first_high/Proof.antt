@@ -5,6 +5,7 @@ use mathlib.Core.Path.{_≡_, _∙_, sym, refl}
 use lib.ListN.{length}
 use Rattle.scan.specs.Scan.{isHigh, placeFrom}
 use Rattle.scan.proofs.Laws.{place-here, place-on, place-end}
+use borrow.Author.Needs.{needs}
 use Rattle.scan.proofs.first_high.Statement.{statement}
 use Rattle.scan.proofs.first_high.Tie as tie
 
@@ -14,37 +15,36 @@ Inv-loop s i₀ i = placeFrom isHigh s 0 ≡ placeFrom isHigh s i
 abbrev μ-loop : tie.MeasureT-loop
 μ-loop s i₀ i = length s - i
 
--- src/lib.rt:86:5
+highs-requires : tie.Need-highs-requires Inv-loop μ-loop
+highs-requires c κs = search needs
+
+returns : tie.Need-returns Inv-loop μ-loop
+returns c = sym (c .before .highs .ensures (c .if1 .taken))
+
 loop-holds : tie.Need-loop-holds Inv-loop μ-loop
 loop-holds c = refl
 
--- src/lib.rt:87:18
-shared-slice-read-if1 : tie.Need-shared-slice-read-if1 Inv-loop μ-loop
-shared-slice-read-if1 c = omega arith
+shared-slice-read-if2 : tie.Need-shared-slice-read-if2 Inv-loop μ-loop
+shared-slice-read-if2 c = omega arith
 
--- src/lib.rt:88:13
-returns : tie.Need-returns Inv-loop μ-loop
+returns-2 : tie.Need-returns-2 Inv-loop μ-loop
 unfolding isHigh
-returns c = let w = c .before .before .before .loop in
-    sym (w .inv ∙ place-here isHigh _ (w .i) (c .before .before .loop-test .taken) (lt-ltb _ _ (c .if1 .taken)))
+returns-2 c = let w = c .before .before .before .loop in
+    sym (w .inv ∙ place-here isHigh _ (w .i) (c .before .before .loop-test .taken) (lt-ltb _ _ (c .if2 .taken)))
 
--- src/lib.rt:90:9
 add-i : tie.Need-add-i Inv-loop μ-loop
 add-i c = omega arith
 
--- src/lib.rt:86:5
 loop-less : tie.Need-loop-less Inv-loop μ-loop
 loop-less c = omega arith
 
--- src/lib.rt:86:5
 loop-again : tie.Need-loop-again Inv-loop μ-loop
 unfolding isHigh
 loop-again c = let w = c .before .before .before .loop in
-    w .inv ∙ place-on isHigh _ (w .i) (c .before .before .loop-test .taken) (le-ltb _ _ (c .if1 .left))
+    w .inv ∙ place-on isHigh _ (w .i) (c .before .before .loop-test .taken) (le-ltb _ _ (c .if2 .left))
 
--- src/lib.rt:82:1
-returns-2 : tie.Need-returns-2 Inv-loop μ-loop
-returns-2 c = let w = c .before .loop in
+returns-3 : tie.Need-returns-3 Inv-loop μ-loop
+returns-3 c = let w = c .before .loop in
     sym (w .inv ∙ place-end isHigh _ (w .i) (c .loop-test .left))
 
 pub first-high-spec : {M : Type 1} → statement M
@@ -53,10 +53,12 @@ first-high-spec =
     (tie.spec
     Inv-loop
     μ-loop
-    loop-holds
-    shared-slice-read-if1
+    highs-requires
     returns
+    loop-holds
+    shared-slice-read-if2
+    returns-2
     add-i
     loop-less
     loop-again
-    returns-2)
+    returns-3)
