@@ -2,3 +2,4 @@ pub mod Groups
 pub mod Lines
 pub mod Reading
 pub mod Sorting
+pub mod Order
