@@ -741,11 +741,14 @@ fn finish(out: &str) -> ! {
 }
 
 fn texts() -> Vec<DeviceText> {
-    let data = stdin_bytes();
+    texts_of(&stdin_bytes())
+}
+
+fn texts_of(data: &[u8]) -> Vec<DeviceText> {
     if REFUSALS.load(SeqCst) != 0 && data.len() > 65_536 {
         finish("refused 2\n");
     }
-    match parse_text(&data) {
+    match parse_text(data) {
         Ok(t) => {
             let words = survey_words(&t).len();
             if words > 16_384 {
@@ -767,7 +770,11 @@ fn texts() -> Vec<DeviceText> {
 }
 
 fn loaded() -> Vec<Device> {
-    match load(&texts()) {
+    loaded_from(&texts())
+}
+
+fn loaded_from(texts: &[DeviceText]) -> Vec<Device> {
+    match load(texts) {
         Ok(d) => d,
         Err(f) => finish(&f.line()),
     }
@@ -866,21 +873,24 @@ fn description_words() -> Vec<u32> {
 }
 
 fn program() {
-    let devices = loaded();
+    program_of(&loaded())
+}
+
+fn program_of(devices: &[Device]) -> ! {
     let mut out = String::new();
     let mut count = 0;
-    for device in &devices {
+    for device in devices {
         let Some(adapters) = device.adapters() else { continue };
         for adapter in adapters {
-            match watched(&devices, || Tunnel::discover(device, adapter, &devices)) {
-                Err(p) => finish(&Fault::panic(&p, locate_discover(&devices, device, adapter)).line()),
+            match watched(devices, || Tunnel::discover(device, adapter, devices)) {
+                Err(p) => finish(&Fault::panic(&p, locate_discover(devices, device, adapter)).line()),
                 Ok(None) => (),
                 Ok(Some(tunnels)) => {
                     let mut words = Vec::new();
                     for t in &tunnels {
                         count += 1;
-                        tunnel_lines(&mut out, &devices, t);
-                        tunnel_words(&mut words, &devices, t);
+                        tunnel_lines(&mut out, devices, t);
+                        tunnel_words(&mut words, devices, t);
                     }
                     if words.len() > 16_384 {
                         if REFUSALS.load(SeqCst) != 0 {
@@ -888,7 +898,7 @@ fn program() {
                         }
                         eprintln!(
                             "note: {}:{} answers {} words, more than 16384",
-                            place_of(&devices, device),
+                            place_of(devices, device),
                             adapter.adapter(),
                             words.len()
                         );
@@ -1224,6 +1234,13 @@ fn batch_answer(kind: &str, case: &str, tree: &Tree) -> Vec<u32> {
         "hex64" => number_words(util::parse_hex::<u64>(case)),
         "dec16" => number_words(case.parse::<u16>().ok().map(u64::from)),
         "dec32" => number_words(case.parse::<u32>().ok().map(u64::from)),
+        "survey" => match parse_text(case.as_bytes()) {
+            Ok(t) => {
+                let words = survey_words(&t);
+                [vec![1 << 28 | words.len() as u32], words].concat()
+            }
+            Err((n, _)) => vec![refusal_word(n, 0, 0)],
+        },
         "dump" => {
             tree.write("dump", case.as_bytes());
             match debugfs::read(&PathBuf::from("thunderbolt/dump"), None, None) {
@@ -1255,6 +1272,37 @@ fn batch(kind: &str) {
         out.push('\n');
     }
     drop(tree);
+    finish(&out)
+}
+
+/// What `program` prints of each text, a case as in `batch`, the answer as hex pairs. Each text has a process of its own, which a
+/// walk that never ends takes with it.
+fn programs() {
+    let mut out = String::new();
+    for (i, l) in lines().iter().enumerate() {
+        let Some(text) = unhex(l.as_bytes()) else { driver_error(&format!("case {}: no hex pairs", i + 1)) };
+        let mut ends = [0; 2];
+        let mut printed = Vec::new();
+        unsafe {
+            if libc::pipe(ends.as_mut_ptr()) != 0 {
+                driver_error("pipe");
+            }
+            let child = libc::fork();
+            if child == 0 {
+                libc::dup2(ends[1], 1);
+                libc::alarm(timeout());
+                program_of(&loaded_from(&texts_of(&text)))
+            }
+            libc::close(ends[1]);
+            std::fs::File::from_raw_fd(ends[0]).read_to_end(&mut printed).unwrap();
+            let mut status = 0;
+            if child < 0 || libc::waitpid(child, &mut status, 0) != child || status != 0 {
+                driver_error(&format!("case {}: its process failed", i + 1));
+            }
+        }
+        printed.iter().for_each(|b| write!(out, "{b:02x}").unwrap());
+        out.push('\n');
+    }
     finish(&out)
 }
 
@@ -1551,6 +1599,10 @@ fn main() {
         }),
         ["dump"] => dump(),
         ["batch", kind] => batch(kind),
+        ["programs"] => {
+            REFUSALS.store(1, SeqCst);
+            programs()
+        }
         ["hex16"] => each_line(|l| none(util::parse_hex::<u16>(l))),
         ["hex32"] => each_line(|l| none(util::parse_hex::<u32>(l))),
         ["hex64"] => each_line(|l| none(util::parse_hex::<u64>(l))),
