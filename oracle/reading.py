@@ -53,7 +53,7 @@ def described_register(t, i):
     if name is None:
         return None
     kinds = {k for k in range(12) if types >> k & 1} if types >> 12 else None
-    return {"space": space, "offset": head & 65535, "cap": ids >> 16 if cap else None, "vs": ids & 65535 if vs else None, "kinds": kinds,
+    return {"place": i, "space": space, "offset": head & 65535, "cap": ids >> 16 if cap else None, "vs": ids & 65535 if vs else None, "kinds": kinds,
             "name": name, "fields": []}, i + 3 + (length + 3) // 4
 
 

@@ -102,6 +102,15 @@ class Text:
             self.dump.append(found)
         return not found or self.dump is not None
 
+    def words(self):
+        words = []
+        for d in self.devices:
+            words += [3 << 28 | d["kind"] << 24 | d["read"] << 1 | d["usb4"], d["domain"], d["route"] % 2**32, d["route"] >> 32]
+            words += register_words(0, d["regs"])
+            for a in d["adapters"]:
+                words += [4 << 28 | a["paths"] << 9 | a["read"] << 8 | a["number"], *register_words(0, a["regs"]), *register_words(1, a["path_regs"])]
+        return words
+
 
 def register_words(space, regs):
     """The records of a dump by offset, equal offsets as they stand."""
@@ -110,22 +119,17 @@ def register_words(space, regs):
 
 
 def survey_words(text):
-    """The survey words of a text: 2, 1 or 4 where there are none."""
+    """The survey words of a text: 2, 1 or 4 where there are none. 4 comes with the words made so far."""
     if len(text) > MOST_BYTES:
-        raise reading.Refused(2)
-    if any(b > 127 for b in text):
-        raise reading.Refused(1)
+        raise reading.Refused(2, len(text))
+    if not text.isascii():
+        raise reading.Refused(1, next(i for i, b in enumerate(text) if b > 127))
     made = Text()
     if not all(made.line(line) for line in text.split(b"\n")):
-        raise reading.Refused(4)
-    words = []
-    for d in made.devices:
-        words += [3 << 28 | d["kind"] << 24 | d["read"] << 1 | d["usb4"], d["domain"], d["route"] % 2**32, d["route"] >> 32]
-        words += register_words(0, d["regs"])
-        for a in d["adapters"]:
-            words += [4 << 28 | a["paths"] << 9 | a["read"] << 8 | a["number"], *register_words(0, a["regs"]), *register_words(1, a["path_regs"])]
+        raise reading.Refused(4, len(made.words()))
+    words = made.words()
     if len(words) > reading.LONGEST:
-        raise reading.Refused(4)
+        raise reading.Refused(4, reading.LONGEST)
     return words
 
 
