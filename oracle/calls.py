@@ -9,8 +9,10 @@ import struct
 import subprocess
 import sys
 
+import described
 from stored import HERE
 
+OURS = described.set_words(described.OURS)
 NAMES = ("parse_hex", "parse_line", "read_dump", "check_descriptions", "check_survey", "describe", "field", "load", "adapter", "link_speed", "max_hop",
          "parent", "walk", "discover", "text", "our_descriptions")
 CODES = {name: i for i, name in enumerate(NAMES, 3)}
@@ -19,6 +21,8 @@ TOLD = struct.Struct("<8Q3I")
 STATUS = {1: "guard words around the output", 2: "guard words around the scratch", 4: "words around the answer", 8: "an input"}
 SHOWN = 12  # differences that are printed
 PANICS = {5, 6, 8, 9, 10, 11, 12, 13}  # refusals that the Rust has no word for: it panics, fails or never ends
+
+DRIVER = {1, 2, 4, 7, 14}  # refusals that the oracle's driver gives by itself: they count as document 01's
 
 
 def packed(words):
@@ -184,7 +188,7 @@ class Counts:
     def count(self, case, name, differs):
         self.cases[name] += 1
         self.differ[name] += differs
-        self.rust[name] += case.rust is not None
+        self.rust[name] += case.rust is not None and case.rust.answer[0] not in DRIVER
         self.panics[name] += case.rust is not None and case.rust.answer[0] in PANICS
         self.ends[name][self.end(case)] += 1
 
@@ -196,11 +200,10 @@ def told(case, held, why, said):
     print(f"  the Rust     {'not asked' if case.rust is None else repr(case.rust)}")
     if said:
         print(f"  here         {' '.join(map(str, said[0]))}, output up to the last word changed: {hexes(said[2]) or '-'}, scratch: {hexes(said[3]) or '-'}")
-    if case.name not in ("parse_hex", "parse_line", "read_dump", "text", "our_descriptions"):
-        for what in ("descriptions", "survey"):
-            words = getattr(held, what)
-            if words is not None and (what == "survey") <= (case.name not in ("describe", "field", "check_descriptions")):
-                print(f"  {what}: {hexes(words)}")
+    for what, without in (("descriptions", ("check_survey",)), ("survey", ("describe", "field", "check_descriptions"))):
+        words = getattr(held, what)
+        if words is not None and case.name not in (*without, "parse_hex", "parse_line", "read_dump", "text", "our_descriptions"):
+            print(f"  {what}: {'ours' if words == OURS else hexes(words)}")
 
 
 def compared(counts, items, altered=None, quiet=False):

@@ -334,6 +334,13 @@ def name_items(chance, questions):
             rust = none() if name == "-" else Expected([0, 1, 2**32])
         if new("describe", tuple(words), space, kind, relative, cap, vs):
             yield Case("describe", rule, rust, numbers=(space, kind, relative, cap, vs))
+        if chance.below(6) == 0:  # a number that no register has
+            q = [space, kind, relative, cap, vs]
+            at = chance.below(5)
+            q[at] = chance.one_of([3, 4, 2**32 - 1, 2**16 + q[0]] if at == 0 else [12, 13, 31, 32 + kind, 2**32 - 1] if at == 1 else [2**16 + q[at], 2**32 - 1])
+            d_ = reading.named(found, q[0], q[1], {"relative": q[2], "cap": q[3], "vs": q[4]})
+            if new("describe", tuple(words), *q):
+                yield Case("describe", none() if d_ is None else value(d_["place"]), numbers=tuple(q))
         wanted = wanted.encode()
         if d is not None:
             yield Case("field", field_rule(found, d["place"], v, wanted), Expected([6]) if field == "panic" else value(int(field)), place=d["place"],
@@ -458,17 +465,20 @@ class Asked:
         for _ in range(2 if stands else 0):
             p, a = chance.one_of(stands)
             some_starts.append((p, a["number"], chance.one_of([0, 1, 7, 8, 8, 9, 32767, 32768, 65535, chance.below(65536)])))
+        if with_entry:  # a HopID that differs in a bit from one that has an entry
+            p, n, h = chance.one_of(with_entry)
+            some_starts.append((p, n, h ^ 1 << chance.one_of([15, 15, chance.below(16)])))
         return dict.fromkeys(some_starts)
 
     def missing(self):
         """A device or an adapter that isn't there: 14."""
         chance, n = self.chance, len(self.devices)
         for name in chance.mixed(["adapter", "link_speed", "max_hop", "walk", "discover"])[:2]:
-            place = chance.one_of([n, n, n + 1, 4096, 2**32, 2**63, *range(n)])
+            place = chance.one_of([n, n, n + 1, *range(n), chance.below(n + 1) + 2**chance.one_of([12, 16, 20, 31, 32, 63])])
             held = [a["number"] for a in self.devices[place]["adapters"]] if place < n else []
             number = chance.one_of([k for k in (0, 1, len(held) + 1, 255) if k not in held])
             yield None, name, place, (number, 8) if name == "walk" else (number,), Expected([14])
-        yield None, "parent", chance.one_of([n, n + 1, 2**32, 2**64 - 1]), (), Expected([14])
+        yield None, "parent", chance.one_of([n, n + 1, chance.below(n + 1) + 2**chance.one_of([12, 16, 32, 63]), 2**64 - 1]), (), Expected([14])
 
     def items(self, row):
         """Cases, with the oracle's answers where there are any."""
