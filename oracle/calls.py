@@ -4,6 +4,7 @@ A question is a head (call, bytes that follow, place, five numbers, words of out
 calls 1 and 2 lend descriptions and a survey to all that follow. The answer is eight numbers, a status (guards or inputs changed), and of
 output and scratch the words up to the last that isn't as it was."""
 import collections
+import hashlib
 import os
 import struct
 import subprocess
@@ -102,6 +103,28 @@ class Lent:
         return ((b"" if self.descriptions is None else lent(self.descriptions, 1)) + (b"" if self.survey is None else lent(self.survey, 2)))
 
 
+ASKED = set()
+BY_DESCRIPTIONS = {"check_descriptions", "describe", "field", "load", "adapter", "link_speed", "max_hop", "parent", "walk", "discover"}
+BY_SURVEY = {"check_survey", "load", "adapter", "link_speed", "max_hop", "parent", "walk", "discover"}
+
+
+def distinct(items):
+    """The items without cases that were asked before."""
+    descriptions = survey = b""
+    for item in items:
+        if isinstance(item, Lent):
+            descriptions = descriptions if item.descriptions is None else packed(item.descriptions)
+            survey = survey if item.survey is None else packed(item.survey)
+        else:
+            key = hashlib.blake2b(item.question(0), digest_size=16)
+            key.update(b"d" + descriptions if item.name in BY_DESCRIPTIONS else b"")
+            key.update(b"s" + survey if item.name in BY_SURVEY else b"")
+            if key.digest() in ASKED:
+                continue
+            ASKED.add(key.digest())
+        yield item
+
+
 # ---- the library -------------------------------------------------------------------------------------
 
 
@@ -193,21 +216,22 @@ class Counts:
         self.ends[name][self.end(case)] += 1
 
 
-def told(case, held, why, said):
+def told(case, held, why, unasked="not asked"):
     """A difference, with what is needed to ask again."""
+    said = case.got
     print(f"differs: {case.shown()}: {why}")
     print(f"  document 01  {case.rule!r}")
-    print(f"  the Rust     {'not asked' if case.rust is None else repr(case.rust)}")
+    print(f"  the Rust     {unasked if case.rust is None else repr(case.rust)}")
     if said:
         print(f"  here         {' '.join(map(str, said[0]))}, output up to the last word changed: {hexes(said[2]) or '-'}, scratch: {hexes(said[3]) or '-'}")
-    for what, without in (("descriptions", ("check_survey",)), ("survey", ("describe", "field", "check_descriptions"))):
+    for what, names in (("descriptions", BY_DESCRIPTIONS), ("survey", BY_SURVEY)):
         words = getattr(held, what)
-        if words is not None and case.name not in (*without, "parse_hex", "parse_line", "read_dump", "text", "our_descriptions"):
+        if words is not None and case.name in names:
             print(f"  {what}: {'ours' if words == OURS else hexes(words)}")
 
 
-def compared(counts, items, altered=None, quiet=False):
-    """Asks the library and compares. Each answer is kept in its case."""
+def compared(counts, items, altered=None, shown=told):
+    """Asks the library and compares; how many differ, of which the first are shown. Each answer is kept in its case."""
     said, n, held = asked(items, altered), 0, Lent()
     differ = 0
     for item in items:
@@ -221,9 +245,9 @@ def compared(counts, items, altered=None, quiet=False):
             why = why or fault(item, item.rust, said[n], salted(n)) or "the Rust and document 01"
         counts.count(item, item.name, why is not None)
         differ += why is not None
-        if why and not quiet and counts.printed < SHOWN:
+        if why and counts.printed < SHOWN:
             counts.printed += 1
-            told(item, held, why, said[n])
+            shown(item, held, why)
         n += 1
         if why and item.got is None:
             break  # the cases after it weren't asked

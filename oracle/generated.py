@@ -10,12 +10,14 @@ import sys
 import tempfile
 
 import reading
+import rule
 import texts
 import tunnels
 import ways
 from calls import Case, Expected, Lent, asked, none, value
 from described import FAVOURED, OURS, SPACES, TYPES, gen_t, hidden, other_sets, set_words, shortened, vendored, wide, without
 from fabric import surveys
+from rule import refused, short, some, tried
 from stored import HERE, Chance
 
 
@@ -41,23 +43,6 @@ def new(kind, *case):
         return False
     SEEN[kind].add(case)
     return True
-
-
-def refused(r):
-    """A refusal with its values."""
-    n = r.number
-    return Expected([n] if n > 12 else [n, r.place] if n < 5 else [n, r.place, r.adapter])
-
-
-def tried(call):
-    try:
-        return call()
-    except reading.Refused as r:
-        return refused(r)
-
-
-def some(v):
-    return none() if v is None else value(v)
 
 
 # ---- the Rust ----------------------------------------------------------------------------------------
@@ -131,10 +116,9 @@ def hex_cases(chance, count):
         held = [t for t, b in made if b == bits]
         said.update({(t, bits): w for t, w in zip(held, batch(f"hex{bits}", held)) if w is not None})
     for text, bits in made:
-        rule = texts.hex_number(text, bits) if bits in (16, 32, 64) else None
         w = said.get((text, bits))
         rust = None if w is None else some(w[0] | w[1] << 32 if w else None)
-        yield Case("parse_hex", some(rule), rust, numbers=(bits,), text=text)
+        yield Case("parse_hex", rule.parse_hex(text, bits), rust, numbers=(bits,), text=text)
 
 
 def a_line(chance):
@@ -149,10 +133,6 @@ def a_line(chance):
     return high(chance, text) if chance.below(14) == 0 else text
 
 
-def first_high(text):
-    return Expected([1, next(i for i, b in enumerate(text) if b > 127)])
-
-
 def line_cases(chance, count):
     made = []
     while len(made) < count:
@@ -160,9 +140,7 @@ def line_cases(chance, count):
         if new("line", text):
             made.append(text)
     for text, w in zip(made, batch("line", made)):
-        found = texts.record(text)
-        rule = first_high(text) if not text.isascii() else value(*found) if found else none()
-        yield Case("parse_line", rule, None if w is None else value(*w) if w else none(), text=text)
+        yield Case("parse_line", tried(lambda: rule.parse_line(text)), None if w is None else value(*w) if w else none(), text=text)
 
 
 def a_dump(chance):
@@ -187,17 +165,11 @@ def rooms(chance, needed):
     return short + [needed + chance.one_of([0, 0, 0, 1, 2, 9, chance.below(100)])]
 
 
-def roomy(chance, name, rule, rust, **more):
+def roomy(chance, name, expected, rust, **more):
     """Cases for a call that writes: with room and without, where it would write."""
-    needed = len(rule.words)
-    if rule.answer[0] == 0 and rule.answer[1] == 1:
-        for room in rooms(chance, needed):
-            if room < needed:
-                yield Case(name, Expected([2, needed]), room=room, **more)
-            else:
-                yield Case(name, rule, rust, room=room, **more)
-    else:
-        yield Case(name, rule, rust, room=chance.one_of([0, 1, 2, 7, 40]), **more)
+    by_result = expected.answer[:2] == [0, 1]
+    for room in rooms(chance, len(expected.words)) if by_result else [chance.one_of([0, 1, 2, 7, 40])]:
+        yield Case(name, short(expected, room), rust if room >= len(expected.words) else None, room=room, **more)
 
 
 def dump_cases(chance, count):
@@ -207,21 +179,17 @@ def dump_cases(chance, count):
         if new("dump", text):
             made.append(text)
     for text, w in zip(made, batch("dump", made)):
-        if w is None:
-            for room, scratch in ((0, 0), (chance.below(9), chance.below(9)), (400, 400))[:1 + chance.below(3)]:
-                yield Case("read_dump", first_high(text), text=text, room=room, scratch=scratch)
-            continue
-        records = sorted((r for r in map(texts.record, text.split(b"\n")) if r), key=lambda r: r[0])
-        words = [x for o, relative, cap, vs, v in records for x in (5 << 28 | o, relative << 16 | cap, vs, v)]
-        rule, rust = Expected([0, 1, len(records)], words, True), Expected([0, 1, len(w) // 4], w, True)
-        needed = len(words)
+        expected = tried(lambda: rule.read_dump(text))
+        needed = len(expected.words)
         pairs = [(rooms(chance, needed)[-1], rooms(chance, needed)[-1])]
         if needed:  # the output short, the scratch, or both
             pairs.append(chance.one_of([(rooms(chance, needed)[0], pairs[0][1]), (pairs[0][0], rooms(chance, needed)[0]),
                                         (rooms(chance, needed)[0], rooms(chance, needed)[0])]))
+        elif w is None:
+            pairs.append((chance.below(9), 400))
         for room, scratch in pairs:
-            enough = min(room, scratch) >= len(words)
-            yield Case("read_dump", rule if enough else Expected([2, len(words)]), rust if enough else None, text=text, room=room, scratch=scratch)
+            rust = Expected([0, 1, len(w) // 4], w, True) if w is not None and min(room, scratch) >= needed else None
+            yield Case("read_dump", short(expected, min(room, scratch)), rust, text=text, room=room, scratch=scratch)
 
 
 # ---- descriptions (module 4) -------------------------------------------------------------------------
@@ -307,14 +275,6 @@ def description_cases(chance, count):
         yield Case("check_descriptions", described(words))
 
 
-def field_rule(found, place, v, wanted):
-    d = next((d for d in found if d["place"] == place), None)
-    try:
-        return value(reading.field(d, {"value": v}, wanted.lower().decode("latin-1"), (0, 0)))
-    except reading.Refused:
-        return Expected([6])
-
-
 def name_items(chance, questions):
     """Questions about one set of descriptions: which group names a register, and a field of it."""
     sets, words = names.a_set(chance) if chance.below(3) else [(s, set_words(s)) for s in [variant(chance)]][0]
@@ -326,36 +286,33 @@ def name_items(chance, questions):
     for (space, kind, relative, cap, vs, v, wanted), row in zip(made, rows):
         name, _, field, _ = row.split(" ")
         d = reading.named(found, space, kind, {"relative": relative, "cap": cap, "vs": vs})
-        rule = none() if d is None else value(d["place"])
+        expected = rule.describe(found, space, kind, relative, cap, vs)
         # The Rust says the name; where its group stands is by document 01.
         if name != "-" and d is not None and bytes.fromhex(name).lower() == d["name"].encode() or name == "-" and d is None:
-            rust = rule
+            rust = expected
         else:
             rust = none() if name == "-" else Expected([0, 1, 2**32])
-        if new("describe", tuple(words), space, kind, relative, cap, vs):
-            yield Case("describe", rule, rust, numbers=(space, kind, relative, cap, vs))
+        yield Case("describe", expected, rust, numbers=(space, kind, relative, cap, vs))
         if chance.below(6) == 0:  # a number that no register has
             q = [space, kind, relative, cap, vs]
             at = chance.below(5)
             q[at] = chance.one_of([3, 4, 2**32 - 1, 2**16 + q[0]] if at == 0 else [12, 13, 31, 32 + kind, 2**32 - 1] if at == 1 else [2**16 + q[at], 2**32 - 1])
-            d_ = reading.named(found, q[0], q[1], {"relative": q[2], "cap": q[3], "vs": q[4]})
-            if new("describe", tuple(words), *q):
-                yield Case("describe", none() if d_ is None else value(d_["place"]), numbers=tuple(q))
+            yield Case("describe", rule.describe(found, *q), numbers=tuple(q))
         wanted = wanted.encode()
         if d is not None:
-            yield Case("field", field_rule(found, d["place"], v, wanted), Expected([6]) if field == "panic" else value(int(field)), place=d["place"],
+            yield Case("field", rule.field(found, d["place"], v, wanted), Expected([6]) if field == "panic" else value(int(field)), place=d["place"],
                        numbers=(v,), text=wanted)
         if chance.below(3) == 0:  # somewhere, or by a name that isn't ASCII
             place = chance.one_of([chance.below(len(words) + 2), chance.one_of(found)["place"] if found else 0, 2**32, 2**64 - 1])
             wanted = chance.one_of([wanted, high(chance, wanted), "\u212a".encode(), wanted + b" ", wanted + b"\0"])
-            yield Case("field", field_rule(found, place, v, wanted), place=place, numbers=(v,), text=wanted)
+            yield Case("field", rule.field(found, place, v, wanted), place=place, numbers=(v,), text=wanted)
     broken = damaged_words(chance, words)
-    rule = described(broken)
-    if rule.answer[0] == 3:
+    expected = described(broken)
+    if expected.answer[0] == 3:
         yield Lent(broken)
         q = made[0]
-        yield Case("describe", rule, numbers=q[:5])
-        yield Case("field", rule, place=chance.below(len(broken) + 1), numbers=(q[5],), text=q[6].encode())
+        yield Case("describe", expected, numbers=q[:5])
+        yield Case("field", expected, place=chance.below(len(broken) + 1), numbers=(q[5],), text=q[6].encode())
 
 
 # ---- surveys (modules 5 to 7) ------------------------------------------------------------------------
@@ -399,35 +356,14 @@ def read_answers(questions, row):
     return said
 
 
-def path_answer(call):
-    hops = call()
-    if hops is None:
-        return none()
-    words = reading.path_words(9, hops)
-    return Expected([0, 1, len(words)], words)
-
-
-def list_answer(call):
-    found = call()
-    if found is None:
-        return none()
-    words = [w for t in found for w in reading.tunnel_words(*t)]
-    return Expected([0, 1, len(words)], words)
-
-
-def adapter_answer(a):
-    least = reading.min_hop(a["kind"])
-    return value(a["kind"], a["state"], int(a["lane0"]), int(a["lane1"]), 65536 if least is None else least, int(reading.enabled(a)))
-
-
 class Asked:
     """A survey by some descriptions, and what is asked of it."""
 
     def __init__(self, chance, words, t, starts=(), most=12):
         self.chance, self.t, self.starts, self.most = chance, t, starts, most
-        self.refused, self.devices = None, []
+        self.refused = self.walks = None
         try:
-            self.found, self.devices = reading.load(words, t)
+            self.walks = reading.Walks(*reading.load(words, t))
         except reading.Refused as r:
             self.refused = r
         self.by_rust = self.refused is None or self.refused.number > 4
@@ -437,26 +373,28 @@ class Asked:
     # Each call: the oracle's question or None, the call, place, numbers, what document 01 says.
 
     def planned(self):
-        chance, devices, found = self.chance, self.devices, self.found
-        yield (0,), "load", 0, (), value(len(devices), sum(len(a["entries"]) for d in devices for a in d["adapters"]))
-        for place, d in enumerate(devices):
-            yield (1 << 28 | place << 8,), "parent", place, (), tried(lambda: some(reading.parent_from(found, devices, place)))
+        for name, place, numbers in self.calls():
+            at, number = place << 8, numbers[0] if numbers else 0
+            q = {"load": (0,), "parent": (1 << 28 | at,), "walk": (6 << 28 | at | number, 0xFFFF << 16 | numbers[-1] if numbers else 0),
+                 "discover": (7 << 28 | at | number, 0)}.get(name, (2 << 28 | at | number,))
+            yield q, name, place, numbers, tried(lambda: rule.of_loaded(name, self.walks, place, numbers))
+        for name, place, numbers in self.missing():
+            yield None, name, place, numbers, Expected([14])
+
+    def calls(self):
+        """Calls on what is there, each a name, a place and numbers."""
+        chance, devices = self.chance, self.walks.devices
+        yield "load", 0, ()
+        yield from (("parent", place, ()) for place in range(len(devices)))
         stands = [(p, a) for p, d in enumerate(devices) for a in d["adapters"]]
         for place, a in chance.mixed(stands)[:self.most]:
-            site, q = (place, a["number"]), (2 << 28 | place << 8 | a["number"],)
-            yield q, "adapter", place, site[1:], adapter_answer(a)
-            yield q, "link_speed", place, site[1:], tried(lambda: value(reading.link_speed(found, a, site)))
-            yield q, "max_hop", place, site[1:], tried(lambda: some(reading.max_hop(found, a, site)))
-        walks = reading.Walks(found, devices)
+            yield from ((name, place, (a["number"],)) for name in ("adapter", "link_speed", "max_hop"))
         for place, number, hop in self.walk_starts(stands):
-            q = 6 << 28 | place << 8 | number, 0xFFFF << 16 | hop
-            yield q, "walk", place, (number, hop), tried(lambda: path_answer(lambda: walks.path(place, number, hop)))
+            yield "walk", place, (number, hop)
         sources = [s for s in stands if reading.enabled(s[1])]
         others = [s for s in stands if not reading.enabled(s[1])]
         for place, a in chance.mixed(sources)[:self.most] + chance.mixed(others)[:2]:
-            rule = tried(lambda: list_answer(lambda: reading.discover(walks, place, a)))
-            yield (7 << 28 | place << 8 | a["number"], 0), "discover", place, (a["number"],), rule
-        yield from self.missing()
+            yield "discover", place, (a["number"],)
 
     def walk_starts(self, stands):
         chance = self.chance
@@ -472,13 +410,14 @@ class Asked:
 
     def missing(self):
         """A device or an adapter that isn't there: 14."""
-        chance, n = self.chance, len(self.devices)
+        chance, devices = self.chance, self.walks.devices
+        n = len(devices)
         for name in chance.mixed(["adapter", "link_speed", "max_hop", "walk", "discover"])[:2]:
             place = chance.one_of([n, n, n + 1, *range(n), chance.below(n + 1) + 2**chance.one_of([12, 16, 20, 31, 32, 63])])
-            held = [a["number"] for a in self.devices[place]["adapters"]] if place < n else []
+            held = [a["number"] for a in devices[place]["adapters"]] if place < n else []
             number = chance.one_of([k for k in (0, 1, len(held) + 1, 255) if k not in held])
-            yield None, name, place, (number, 8) if name == "walk" else (number,), Expected([14])
-        yield None, "parent", chance.one_of([n, n + 1, chance.below(n + 1) + 2**chance.one_of([12, 16, 32, 63]), 2**64 - 1]), (), Expected([14])
+            yield name, place, (number, 8) if name == "walk" else (number,)
+        yield "parent", chance.one_of([n, n + 1, chance.below(n + 1) + 2**chance.one_of([12, 16, 32, 63]), 2**64 - 1]), ()
 
     def items(self, row):
         """Cases, with the oracle's answers where there are any."""
@@ -486,20 +425,20 @@ class Asked:
         yield Lent(survey=self.t)
         yield Case("check_survey", tried(lambda: (reading.survey(self.t), value())[1]))
         if self.refused:
-            rule, rust = refused(self.refused), word_answer(row[1]) if row else None
-            yield Case("load", rule, rust)
+            expected, rust = refused(self.refused), word_answer(row[1]) if row else None
+            yield Case("load", expected, rust)
             for name in chance.mixed(["adapter", "link_speed", "max_hop", "parent", "walk", "walk", "discover", "discover"])[:4]:
                 numbers = () if name == "parent" else (chance.one_of([0, 1, 2, 255]), chance.one_of([8, 9, 65535]))[:1 + (name == "walk")]
-                yield Case(name, rule, rust, place=chance.one_of([0, 1, 2, 4095, 2**33]), numbers=numbers, room=chance.one_of([0, 3, 40]))
+                yield Case(name, expected, rust, place=chance.one_of([0, 1, 2, 4095, 2**33]), numbers=numbers, room=chance.one_of([0, 3, 40]))
             return
         said = read_answers(self.questions, row)
-        for q, name, place, numbers, rule in self.plan:
+        for q, name, place, numbers, expected in self.plan:
             rust = said.get(q)
             rust = rust[name] if isinstance(rust, dict) else rust
             if name in ("walk", "discover"):
-                yield from roomy(chance, name, rule, rust, place=place, numbers=numbers)
+                yield from roomy(chance, name, expected, rust, place=place, numbers=numbers)
             else:
-                yield Case(name, rule, rust, place=place, numbers=numbers)
+                yield Case(name, expected, rust, place=place, numbers=numbers)
 
 
 def described_by(chance, sets, all_surveys, most=12):
@@ -516,11 +455,11 @@ def described_by(chance, sets, all_surveys, most=12):
         yield from a.items(said.get(id(a)))
     # the same under a list that is broken: 3 comes first
     broken = damaged_words(chance, words)
-    rule = described(broken)
-    if made and rule.answer[0] == 3:
+    expected = described(broken)
+    if made and expected.answer[0] == 3:
         yield Lent(broken, chance.one_of(made).t)
         for name, numbers in (("load", ()), ("adapter", (1,)), ("parent", ()), ("walk", (1, 8)), ("discover", (1,))):
-            yield Case(name, rule, numbers=numbers, room=chance.one_of([0, 5]))
+            yield Case(name, expected, numbers=numbers, room=chance.one_of([0, 5]))
 
 
 # ---- what surveys have in them -----------------------------------------------------------------------
@@ -538,20 +477,30 @@ def deep(devices):
     return best
 
 
+def tunnel_heads(words):
+    """The words of tunnels among result words; a hop's second word may look like one."""
+    i = 0
+    while i < len(words):
+        if words[i] >> 28 == 8:
+            yield words[i]
+        i += 2 if words[i] >> 28 == 10 else 1
+
+
 def count_survey(a):
     MET["surveys"] += 1
     if a.refused:
         MET["surveys refused by 4" if a.refused.number == 4 else "surveys refused in loading"] += 1
         return
-    routers = [(d["domain"], d["route"]) for d in a.devices if d["kind"] == 1]
-    depth = deep(a.devices)
+    devices = a.walks.devices
+    routers = [(d["domain"], d["route"]) for d in devices if d["kind"] == 1]
+    depth = deep(devices)
     MET[f"surveys {depth} routers deep" if 0 < depth < 5 else "surveys deeper" if depth else "surveys without routers"] += 1
     MET["surveys with twins"] += len(routers) > len(set(routers))
-    MET["surveys with xdomains"] += any(d["kind"] == 2 for d in a.devices)
-    MET["surveys with zero bytes in routes"] += any(0 in d["route"].to_bytes(8, "little")[:reading.depth(d["route"])] for d in a.devices)
-    for _, name, _, _, rule in a.plan:
+    MET["surveys with xdomains"] += any(d["kind"] == 2 for d in devices)
+    MET["surveys with zero bytes in routes"] += any(0 in d["route"].to_bytes(8, "little")[:reading.depth(d["route"])] for d in devices)
+    for _, name, _, _, expected in a.plan:
         if name == "discover":
-            for w in (w for w in rule.words if w >> 28 == 8):
+            for w in tunnel_heads(expected.words):
                 MET[f"{texts.KINDS[w & 15]} tunnels, {'closed' if w >> 16 & 1 else 'open' if w >> 8 & 255 > 1 else 'one way'}"] += 1
 
 
@@ -716,14 +665,10 @@ def text_cases(chance, count):
         if new("text", text):
             made.append(text)
     for text, w in zip(made, batch("survey", made)):
-        try:
-            words = texts.survey_words(text)
-            rule = Expected([0, 1, len(words)], words)
-        except reading.Refused as r:
-            rule = refused(r)
+        expected = tried(lambda: rule.written(texts.survey_words(text)))
         # The driver's refusals have no places, and it knows no most words.
         rust = Expected([0, 1, len(w) - 1], w[1:]) if w and w[0] >> 28 == 1 and len(w) <= reading.LONGEST + 1 and len(text) <= texts.MOST_BYTES else None
-        yield from roomy(chance, "text", rule, rust, text=text)
+        yield from roomy(chance, "text", expected, rust, text=text)
 
 
 def result_lines(words):
@@ -782,9 +727,8 @@ def printed_by_rust(cases):
 def our_cases(chance, count):
     words = [int(w, 16) for w in subprocess.run([HERE / "target" / "release" / "oracle", "descriptions"], input="", capture_output=True, text=True,
                                                 check=True).stdout.split()]
-    rule, rust = Expected([0, 1, len(OUR_WORDS)], OUR_WORDS), Expected([0, 1, len(words)], words)
     for room in {0, 1, 90, 91, 92, 200, *(chance.below(300) for _ in range(count))}:
-        yield Case("our_descriptions", rule if room >= 91 else Expected([2, 91]), rust if room >= 91 else None, room=room)
+        yield Case("our_descriptions", short(rule.written(OUR_WORDS), room), rule.written(words) if room >= len(words) else None, room=room)
 
 
 def kinds(seed, round_):
