@@ -7,27 +7,12 @@
 #include <string.h>
 #include <sys/mman.h>
 
+#include "tunnels.h"
+
 typedef const uint32_t *words;
 typedef const uint8_t *bytes;
 
-void tunnels_parse_hex(bytes, size_t, uint32_t bits, uint64_t *);
-void tunnels_parse_line(bytes, size_t, uint64_t *);
-void tunnels_read_dump(bytes, size_t, uint32_t *scratch, size_t, uint32_t *output, size_t, uint64_t *);
-void tunnels_check_descriptions(words, size_t, uint64_t *);
-void tunnels_check_survey(words, size_t, uint64_t *);
-void tunnels_describe(words, size_t, uint32_t space, uint32_t kind, uint32_t relative_offset, uint32_t cap_id, uint32_t vs_id, uint64_t *);
-void tunnels_field(words, size_t, size_t place, uint32_t value, bytes name, size_t, uint64_t *);
-void tunnels_load(words, size_t, words, size_t, uint64_t *);
-void tunnels_adapter(words, size_t, words, size_t, size_t place, uint8_t adapter, uint64_t *);
-void tunnels_link_speed(words, size_t, words, size_t, size_t place, uint8_t adapter, uint64_t *);
-void tunnels_max_hop(words, size_t, words, size_t, size_t place, uint8_t adapter, uint64_t *);
-void tunnels_parent(words, size_t, words, size_t, size_t place, uint64_t *);
-void tunnels_walk(words, size_t, words, size_t, size_t place, uint8_t adapter, uint16_t hop, uint32_t *output, size_t, uint64_t *);
-void tunnels_discover(words, size_t, words, size_t, size_t place, uint8_t adapter, uint32_t *output, size_t, uint64_t *);
-void tunnels_text(bytes, size_t, uint32_t *output, size_t, uint64_t *);
-void tunnels_our_descriptions(uint32_t *output, size_t, uint64_t *);
-
-enum { MOST = 1 << 20, PAGE = 1 << 16, GUARD = 16, ANSWER = 8 };
+enum { MOST = 1 << 20, PAGE = 1 << 16, GUARD = 16, ANSWER = TUNNELS_ANSWER_WORDS };
 enum call { DESCRIPTIONS = 1, SURVEY, HEX, LINE, DUMP, CHECK_DESCRIPTIONS, CHECK_SURVEY, DESCRIBE, FIELD, LOAD, ADAPTER, LINK_SPEED, MAX_HOP,
             PARENT, WALK, DISCOVER, TEXT, OURS };
 /* What the status says. */

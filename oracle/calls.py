@@ -132,7 +132,8 @@ def built():
     """Builds the asker over the static library."""
     target = HERE / "target"
     library = HERE.parent / "target" / "staticlib" / "libexport.a"
-    run = subprocess.run(["cc", "-std=gnu11", "-O2", "-Wall", "-Wextra", "-o", target / "asker", HERE / "asker.c", library], check=False)
+    run = subprocess.run(["cc", "-std=gnu11", "-O2", "-Wall", "-Wextra", "-I", HERE.parent / "bindings", "-o", target / "asker", HERE / "asker.c",
+                          library], check=False)
     if run.returncode != 0:
         sys.exit("compare: the asker isn't built")
 
