@@ -6,9 +6,10 @@ use std::hint::black_box;
 use tbtools::Device;
 use tbtools::tunnel::Tunnel;
 
+use crate::row;
+use crate::surveys::{Adapter, DP_IN, DP_OUT, HOST, PCIE_DOWN, PCIE_UP, Paths, Register, Router, USB3_DOWN, USB3_UP};
+use crate::surveys::{basic, dumps, lane, leads, loaded, make, protocol, router, words, xdomain};
 use crate::walking::Tables;
-use crate::{Adapter, LANE, PCIE_DOWN, PCIE_UP, Paths, Register, Router};
-use crate::{basic, capability, dumps, leads, loaded, micros, router, words, xdomain};
 
 #[link(name = "discovering", kind = "static")]
 unsafe extern "C" {
@@ -28,17 +29,10 @@ unsafe extern "C" {
     ) -> usize;
 }
 
-const HOST: u32 = 2;
 /// As many words as the program has for an answer.
 const ROOM: usize = 16384;
-/// The rings in use in (f), of 40.
-const USED: [u32; 4] = [1, 2, 3, 40];
 
 // ---- surveys ------------------------------------------------------------------------------
-
-fn lane(most: u32, dump: Vec<Register>) -> Adapter {
-    Adapter { registers: basic(6, LANE, most), paths: Paths::Read(dump) }
-}
 
 /// A host: lane 1, and a host interface as adapter 2; so many xdomains stand behind the lane.
 fn host(lane: Adapter, rings: u32, dump: Vec<Register>, xdomains: usize) -> Vec<Router> {
@@ -47,30 +41,35 @@ fn host(lane: Adapter, rings: u32, dump: Vec<Register>, xdomains: usize) -> Vec<
     std::iter::once(top).chain((0..xdomains).map(|_| xdomain(1))).collect()
 }
 
-/// (f) 40 rings, an xdomain and a lane with so many entries, all to the host interface; four, spread evenly, to the rings in use.
-fn used(entries: u32) -> Vec<Router> {
-    let step = entries / 4;
-    let to = |i: u32| if i % step == step / 2 && i / step < 4 { USED[(i / step) as usize] } else { 1000 };
+/// As many rings as the lane has HopIDs; those in use lead out and in, by HopID ring + 7.
+fn rings(rings: u32, used: &[u32], xdomains: usize) -> Vec<Router> {
+    let back = used.iter().map(|r| leads(7 + r, 2, *r)).collect();
+    let out = used.iter().map(|r| leads(*r, 1, 7 + r)).collect();
+    host(lane(7 + rings, back), rings, out, xdomains)
+}
+
+/// 40 rings, four in use, and a lane with so many entries, all to the host interface; four, spread evenly, to the rings in use.
+fn crowded(entries: u32) -> Vec<Router> {
+    let (step, used) = (entries / 4, [1, 2, 3, 40]);
+    let to = |i: u32| if i % step == step / 2 { used[(i / step) as usize] } else { 1000 };
     let dump = (0..entries).map(|i| leads(8 + i, 2, to(i))).collect();
-    host(lane(7 + entries, dump), 40, USED.map(|r| leads(r, 1, 8 + r)).to_vec(), 1)
+    host(lane(7 + entries, dump), 40, used.map(|r| leads(r, 1, 8 + r)).to_vec(), 1)
 }
 
-/// (g) As many rings as the lane has HopIDs, and 100 xdomains; there are no entries.
-fn unused(most: u32) -> Vec<Router> {
-    host(lane(most, Vec::new()), most, Vec::new(), 100)
-}
-
-/// (h) A PCIe tunnel through a router to the one below it, three hops each way.
-fn deep() -> Vec<Router> {
-    let pcie = |kind| {
-        let mut registers = [basic(6, kind, 8), capability(0x39, 4, 0, 1)].concat();
-        registers[6].value = 1 << 31;
-        Adapter { registers, paths: Paths::Read(vec![leads(8, 1, 9)]) }
-    };
-    let top = router(0, 2, 63, vec![lane(20, vec![leads(10, 2, 8)]), pcie(PCIE_DOWN)]);
-    let middle = router(1, 2, 1, vec![lane(20, vec![leads(9, 2, 10)]), lane(20, vec![leads(9, 1, 10)])]);
-    let last = router(0x201, 2, 1, vec![lane(20, vec![leads(10, 2, 8)]), pcie(PCIE_UP)]);
-    vec![top, middle, last]
+/// A tunnel from adapter 2 of a host to adapter 2 of a router so deep, through lanes 1 and 2 of those between.
+/// Each pair is a path's HopID at its adapters and between them: those down first, then those up.
+fn deep(depth: u32, kinds: [u32; 2], down: &[(u32, u32)], up: &[(u32, u32)]) -> Vec<Router> {
+    let starts = |paths: &[(u32, u32)]| paths.iter().map(|(at, on)| leads(*at, 1, *on)).collect();
+    let ends = |paths: &[(u32, u32)]| paths.iter().map(|(at, on)| leads(*on, 2, *at)).collect();
+    let through = |paths: &[(u32, u32)], out| paths.iter().map(|(_, on)| leads(*on, out, *on)).collect();
+    let mut all = vec![router(0, 2, 63, vec![lane(20, ends(up)), protocol(kinds[0], starts(down))])];
+    let mut route = 1;
+    for level in 1..depth {
+        all.push(router(route, 2, 1, vec![lane(20, through(down, 2)), lane(20, through(up, 1))]));
+        route |= 2 << (8 * level);
+    }
+    all.push(router(route, 2, 1, vec![lane(20, ends(down)), protocol(kinds[1], starts(up))]));
+    all
 }
 
 // ---- both sides ---------------------------------------------------------------------------
@@ -84,7 +83,7 @@ struct Source {
 
 impl Source {
     fn new(name: &str, routers: &[Router]) -> Self {
-        dumps(name, routers);
+        make(&dumps(name, routers));
         let output = RefCell::new(vec![0; ROOM]);
         let source = Source { tables: Tables::of(&words(routers)), devices: loaded(name, routers), output };
         assert_eq!(source.shape(), source.expected(), "not what the Rust finds");
@@ -144,23 +143,39 @@ impl Source {
 // ---- timing -------------------------------------------------------------------------------
 
 pub fn run(rounds: usize) {
-    println!("\nDiscovery, in microseconds\n");
-    println!("  from                          devices  entries  tunnels  words    ours       Rust  ours/Rust");
-    let shown = |t: f64| format!("{t:.*}", if t < 10.0 { 3 } else { 1 });
-    let cases: [(&str, Vec<Router>, usize); 6] = [
-        ("(f) 40 rings, 10 entries", used(10), rounds),
-        ("(f) 40 rings, 100 entries", used(100), rounds),
-        ("(f) 40 rings, 1000 entries", used(1000), rounds),
-        ("(g) 200 rings, 100 xdomains", unused(200), rounds),
-        ("(g) 2047 rings, 100 xdomains", unused(2047), 1),
-        ("(h) PCIe, two routers deep", deep(), rounds),
-    ];
-    for (i, (what, routers, rounds)) in cases.iter().enumerate() {
-        let source = Source::new(&format!("f{i}"), routers);
-        let (tunnels, count) = (source.shape().len(), source.ours());
-        let [ours, its] = micros(*rounds, [&|| source.ours(), &|| source.its_tunnels().len()]);
-        let (devices, entries) = (source.devices.len(), source.tables.entries.len());
-        let (a, b, ratio) = (shown(ours), shown(its), ours / its);
-        println!("  {what:28}  {devices:7}  {entries:7}  {tunnels:7}  {count:5}  {a:>6}  {b:>9}  {ratio:9.3}");
+    let time = |table: &str, series: &str, size: u32, routers: &[Router]| {
+        let source = Source::new("f", routers);
+        let numbers = [
+            ("devices", source.devices.len()),
+            ("entries", source.tables.entries.len()),
+            ("tunnels", source.shape().len()),
+            ("words", source.ours()),
+        ];
+        let calls: [crate::Call; 2] = [("ours", &|| source.ours()), ("rust", &|| source.its_tunnels().len())];
+        row(rounds, table, series, size as usize, &numbers, &calls);
+    };
+    for n in (4..=10).map(|n| 1 << n) {
+        time("sparse", "no entries", n, &rings(n, &[], 1));
+    }
+    for n in (4..=10).map(|n| 1 << n) {
+        time("sparse", "four rings in use", n, &rings(n, &[1, n / 3, n / 2, n], 1));
+    }
+    for n in (4..=10).map(|n| 1 << n) {
+        time("sparse", "no entries, 100 xdomains", n, &rings(n, &[], 100));
+    }
+    for n in (4..=10).map(|n| 1 << n) {
+        time("dense", "all rings in use", n, &rings(n, &(1..=n).collect::<Vec<_>>(), 1));
+    }
+    for n in (4..=10).map(|n| 1 << n) {
+        time("dense", "40 rings, four in use, entries at all HopIDs", n, &crowded(n));
+    }
+    for depth in 1..=7 {
+        time("deep", "PCIe", depth, &deep(depth, [PCIE_DOWN, PCIE_UP], &[(8, 9)], &[(8, 10)]));
+    }
+    for depth in 1..=7 {
+        time("deep", "USB 3", depth, &deep(depth, [USB3_DOWN, USB3_UP], &[(8, 9)], &[(8, 10)]));
+    }
+    for depth in 1..=7 {
+        time("deep", "DisplayPort", depth, &deep(depth, [DP_IN, DP_OUT], &[(8, 9), (9, 11)], &[(8, 10)]));
     }
 }

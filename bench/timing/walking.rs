@@ -1,12 +1,12 @@
 //! Walks on loaded tables: the proved `walk::tally`, and the Rust's `discover_path` on the same devices.
 
 use std::hint::black_box;
-use std::time::Instant;
 
 use tbtools::tunnel::{self, Tunnel};
 use tbtools::{Device, debugfs};
 
-use crate::{Router, dumps, entries, kernel, loaded, micros, steps, words};
+use crate::row;
+use crate::surveys::{Router, dumps, entries, kernel, loaded, make, steps, words};
 
 #[link(name = "timing", kind = "static")]
 unsafe extern "C" {
@@ -40,11 +40,6 @@ unsafe extern "C" {
         hop: u16,
     ) -> u64;
 }
-
-/// How many walks that end at their start are timed, in so many turns.
-const WALKS: usize = 4_000_000;
-const TURNS: usize = 16;
-const LENGTHS: [usize; 4] = [1, 10, 100, 1000];
 
 // ---- both sides ---------------------------------------------------------------------------
 
@@ -102,7 +97,7 @@ struct Start {
 
 impl Start {
     fn new(name: &str, routers: &[Router], place: usize, adapter: u8, hop: u16) -> Self {
-        dumps(name, routers);
+        make(&dumps(name, routers));
         let start = Start { tables: Tables::of(&words(routers)), devices: loaded(name, routers), place, adapter, hop };
         assert_eq!(start.ours(), start.expected(), "not where the Rust comes");
         start
@@ -137,52 +132,33 @@ impl Start {
 
 // ---- timing -------------------------------------------------------------------------------
 
-/// Seconds of so many walks by each, in turns, and of the best turn; the first turn doesn't count.
-fn seconds(start: &Start) -> [[f64; 2]; 2] {
-    let adapter = start.its_adapter();
-    let calls: [&dyn Fn() -> u64; 2] = [&|| start.ours(), &|| start.its(adapter)];
-    let (mut total, mut best) = ([0.0; 2], [f64::MAX; 2]);
-    for turn in 0..=TURNS {
-        for (i, call) in calls.iter().enumerate() {
-            let begun = Instant::now();
-            for _ in 0..WALKS / TURNS {
-                black_box(call());
-            }
-            if turn > 0 {
-                let taken = begun.elapsed().as_secs_f64();
-                total[i] += taken;
-                best[i] = best[i].min(taken);
-            }
-        }
-    }
-    [total, best]
-}
-
 pub fn run(rounds: usize) {
-    println!("\n(d) {WALKS} walks that end at their start, in seconds\n");
-    println!("  start                              entries  there    ours    Rust  ours/Rust  best turns");
-    let cases: [(&str, Vec<Router>, u8, u16); 4] = [
-        ("two routers", steps(4), 1, 100),
-        ("(a), a lane with HopIDs in use", kernel(16384), 1, 9),
-        ("(a), a lane without a path dump", kernel(16384), 2, 8),
-        ("(b), the longest path dump", entries(16384), 1, 7),
+    let time = |series: &str, size: usize, start: &Start| {
+        let adapter = start.its_adapter();
+        let there = adapter.paths().map_or(0, |p| p.len());
+        row(
+            rounds,
+            "walks",
+            series,
+            size,
+            &[("hops", (start.ours() >> 48) as usize), ("entries", start.tables.entries.len()), ("there", there)],
+            &[("ours", &|| start.ours() as usize), ("rust", &|| start.its(adapter) as usize)],
+        );
+    };
+    let none: [(&str, Vec<Router>, u8, u16); 4] = [
+        ("no hop: two routers", steps(4), 1, 100),
+        ("no hop: a lane with HopIDs in use", kernel(16), 1, 9),
+        ("no hop: a lane without a path dump", kernel(16), 2, 8),
+        ("no hop: a long path dump", entries(16384), 1, 7),
     ];
-    for (i, (what, routers, adapter, hop)) in cases.iter().enumerate() {
+    for (i, (series, routers, adapter, hop)) in none.iter().enumerate() {
         let start = Start::new(&format!("d{i}"), routers, 0, *adapter, *hop);
         assert_eq!(start.ours(), 0, "a path");
-        let [[ours, its], best] = seconds(&start);
-        let there = start.its_adapter().paths().map_or(0, |p| p.len());
-        let (all, ratio) = (start.tables.entries.len(), best[0] / best[1]);
-        println!("  {what:33} {all:7}  {there:5}  {ours:6.3}  {its:6.3}  {:9.2}  {ratio:10.2}", ours / its);
+        time(series, 0, &start);
     }
-
-    println!("\n(e) paths, in microseconds a walk\n");
-    println!("   hops     ours     Rust  ours/Rust");
-    for hops in LENGTHS {
-        let start = Start::new(&format!("e{hops}"), &steps(hops as u32), 0, 1, 8);
+    for hops in (0..=11).map(|n| 1 << n) {
+        let start = Start::new(&format!("e{hops}"), &steps(hops), 0, 1, 8);
         assert_eq!(start.ours() >> 48, hops as u64, "another number of hops");
-        let adapter = start.its_adapter();
-        let [ours, its] = micros(rounds, [&|| start.ours() as usize, &|| start.its(adapter) as usize]);
-        println!("{hops:7}  {ours:7.3}  {its:7.3}  {:9.2}", ours / its);
+        time("to and fro", hops as usize, &start);
     }
 }
