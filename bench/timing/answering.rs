@@ -107,11 +107,7 @@ fn printed(devices: &[Device]) -> String {
 
 /// A process on a text, and what it prints.
 fn process(program: &[String], input: &str) -> String {
-    let made = Command::new(&program[0])
-        .args(&program[1..])
-        .stdin(Stdio::from(File::open(input).unwrap()))
-        .output()
-        .unwrap();
+    let made = Command::new(&program[0]).args(&program[1..]).stdin(Stdio::from(File::open(input).unwrap())).output().unwrap();
     assert!(made.status.success(), "{program:?} failed");
     String::from_utf8(made.stdout).unwrap()
 }

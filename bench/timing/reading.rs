@@ -15,14 +15,7 @@ use crate::row;
 unsafe extern "C" {
     fn line_record(line: *const u8, length: usize) -> u64;
     fn line_ids(line: *const u8, length: usize) -> u64;
-    fn read_on(
-        dump: *const u8,
-        length: usize,
-        scratch: *mut u32,
-        scratch_room: usize,
-        output: *mut u32,
-        room: usize,
-    ) -> usize;
+    fn read_on(dump: *const u8, length: usize, scratch: *mut u32, scratch_room: usize, output: *mut u32, room: usize) -> usize;
 }
 
 #[link(name = "cut", kind = "static")]
@@ -40,9 +33,7 @@ fn record(line: &str) -> u64 {
 
 /// A register of the Rust, as `line_record` gives it.
 fn its_record(line: &str) -> u64 {
-    Register::parse_debugfs(line).map_or(NONE, |r| {
-        (r.offset() as u64) << 48 | (r.relative_offset() as u64) << 32 | r.value() as u64
-    })
+    Register::parse_debugfs(line).map_or(NONE, |r| (r.offset() as u64) << 48 | (r.relative_offset() as u64) << 32 | r.value() as u64)
 }
 
 /// The same of bytes, which its file reader makes a text of.
@@ -134,14 +125,7 @@ impl<'a> Read<'a> {
     pub fn ours(&self) -> usize {
         let (mut scratch, mut output) = (self.scratch.borrow_mut(), self.output.borrow_mut());
         unsafe {
-            read_on(
-                black_box(self.dump.as_ptr()),
-                self.dump.len(),
-                scratch.as_mut_ptr(),
-                scratch.len(),
-                output.as_mut_ptr(),
-                output.len(),
-            )
+            read_on(black_box(self.dump.as_ptr()), self.dump.len(), scratch.as_mut_ptr(), scratch.len(), output.as_mut_ptr(), output.len())
         }
     }
 }

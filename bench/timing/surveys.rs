@@ -47,9 +47,7 @@ pub struct Router {
 
 /// The registers of a capability that begins at an offset.
 pub fn capability(at: u32, cap: u32, vs: u32, count: u32) -> Vec<Register> {
-    (0..count)
-        .map(|i| Register { offset: at + i, relative: i, cap, vs, value: 0x01010101 * i })
-        .collect()
+    (0..count).map(|i| Register { offset: at + i, relative: i, cap, vs, value: 0x01010101 * i }).collect()
 }
 
 /// ROUTER_CS_0 and on; ROUTER_CS_1 has Upstream Adapter and Max Adapter.
