@@ -6,18 +6,25 @@ ghost use lib.Dec.{leb, eqb};
 ghost use Rattle.refusal.specs.declared.Site.{Site};
 ghost use Rattle.layout.specs.Layout.{low};
 ghost use Rattle.layout.specs.Description.{descriptionsOf};
+ghost use Rattle.metadata.specs.Calls.{valueIn};
 ghost use Rattle.survey.specs.Devices.{registerIn};
 ghost use Rattle.named.specs.Named.{pathSpace, named};
 ghost use Rattle.adapter.specs.Adapter.{minHop, hopOutcome};
 ghost use Rattle.adapter.specs.Paths.{entryOf, entryOutcome};
-ghost use Rattle.paths.specs.Work.{LeadsBy};
+ghost use Rattle.paths.specs.Reading.{fieldsFor, leads, readBy};
 use adapter::EntryFound;
 use adapter::HopFound;
-use named::FieldRead;
-use named::FlagRead;
+use fields::FieldFound;
 use naming::Found;
 use naming::Sought;
 use usb4::AdapterType;
+
+// Where the fields of a path entry stand.
+pub struct EntryFields {
+    pub valid: FieldFound,
+    pub hop: FieldFound,
+    pub out: FieldFound,
+}
 
 // The least HopID of an adapter of a kind.
 pub fn min_hop(kind: AdapterType) -> HopFound
@@ -49,25 +56,67 @@ pub fn looked_at(offset: u32, least: u32) -> bool
     offset % 2 == 0
 }
 
-// Where a valid path register leads: Output HopID, then Output Adapter.
-fn entry_fields(descriptions: &[u32], group: usize, value: u32) -> EntryFound
-    ensures { λ r. ⌜ LeadsBy (now (descriptions .entry)) group value r ⌝ }
+// Where a valid entry leads: Output HopID, then Output Adapter.
+fn leads_to(fields: EntryFields, value: u32) -> EntryFound
+    ensures { λ r. ⌜ r ≡ leads (valueIn value (fields .hop)) (valueIn value (fields .out)) ⌝ }
 {
-    let FieldRead::Value(hop) = named::field_value(descriptions, group, value, b"Output HopID")
-    else {
+    let hop = fields.hop;
+    let FieldFound::Bits { start, end } = hop else {
         return EntryFound::NoField;
     };
-    let FieldRead::Value(out) = named::field_value(descriptions, group, value, b"Output Adapter")
-    else {
+    let out = fields.out;
+    let FieldFound::Bits {
+        start: first,
+        end: last,
+    } = out else {
         return EntryFound::NoField;
     };
     EntryFound::Entry {
-        out_adapter: (out % 256) as u8,
-        out_hop: (hop % 65536) as u16,
+        out_adapter: (util::bits(value, first, last) % 256) as u8,
+        out_hop: (util::bits(value, start, end) % 65536) as u16,
     }
 }
 
-// A path register's entry, by its words and the number of its adapter's kind: Valid, then Output HopID, then Output Adapter.
+// What a path register with a value says: Valid, then Output HopID, then Output Adapter.
+pub fn entry_by(fields: EntryFields, value: u32) -> EntryFound
+    ensures { λ r. ⌜ r ≡ readBy fields value ⌝ }
+{
+    let valid = fields.valid;
+    let FieldFound::Bits { start, end } = valid else {
+        return EntryFound::NoField;
+    };
+    if util::bits(value, start, end) == 0 {
+        return EntryFound::Invalid;
+    }
+    leads_to(fields, value)
+}
+
+// The fields of path registers with these ids, by the number of their adapter's kind.
+pub fn fields_of(descriptions: &[u32], kind: u32, ids: u32, vs: u32) -> EntryFields
+    ensures { λ r. ⌜ r ≡ fieldsFor (descriptionsOf (now (descriptions .entry))) kind ids vs ⌝ }
+{
+    let q = Sought {
+        space: 2,
+        kind,
+        offset: ids / 65536 % 65536,
+        cap: ids % 65536,
+        vs,
+    };
+    let Found::At(group) = naming::find_group(descriptions, q) else {
+        return EntryFields {
+            valid: FieldFound::Missing,
+            hop: FieldFound::Missing,
+            out: FieldFound::Missing,
+        };
+    };
+    EntryFields {
+        valid: fields::find_flag(descriptions, group, b"Valid"),
+        hop: fields::find_field(descriptions, group, b"Output HopID"),
+        out: fields::find_field(descriptions, group, b"Output Adapter"),
+    }
+}
+
+// A path register's entry, by its words and the number of its adapter's kind.
 pub fn entry_of(
     descriptions: &[u32],
     kind: u32,
@@ -78,19 +127,5 @@ pub fn entry_of(
 ) -> EntryFound
     ensures { λ r. ⌜ ((s : Site) → entryOutcome s (low w 15) r ≡ entryOf s (registerIn w ids vs value) (named (descriptionsOf (now (descriptions .entry))) pathSpace kind (registerIn w ids vs value))) ⌝ }
 {
-    let q = Sought {
-        space: 2,
-        kind,
-        offset: ids / 65536 % 65536,
-        cap: ids % 65536,
-        vs,
-    };
-    let Found::At(group) = naming::find_group(descriptions, q) else {
-        return EntryFound::NoField;
-    };
-    match named::flag_value(descriptions, group, value, b"Valid") {
-        FlagRead::Missing => EntryFound::NoField,
-        FlagRead::Clear => EntryFound::Invalid,
-        FlagRead::Set => entry_fields(descriptions, group, value),
-    }
+    entry_by(fields_of(descriptions, kind, ids, vs), value)
 }
