@@ -4,7 +4,7 @@ use native.Mathlib.Omega.{arith}
 use native.Mathlib.Numerals.{add-one}
 use native.Mathlib.Nat.{le-refl}
 use mathlib.Core.Path.{_≡_, refl, _∙_, ap, sym, subst}
-use mathlib.Core.Bool.{Bool, true, false, cond, _&&_}
+use mathlib.Core.Bool.{Bool, true, false, cond, _&&_, false≢true}
 use mathlib.Core.List.{List, [], _∷_, _++_, map, map-append, append-nil, append-assoc}
 use mathlib.Core.Option.{Option, none, some, Option·getD}
 use lib.Dec.{leb, eqb}
@@ -14,7 +14,7 @@ use Rattle.refusal.specs.Outcome.{Outcome, value, refused, bind}
 use Rattle.refusal.specs.Refusal.{refusalOf}
 use Rattle.refusal.specs.declared.Site.{Site}
 use Rattle.refusal.specs.declared.Fault.the-variants.{NoField}
-use Rattle.layout.specs.Layout.{low, word}
+use Rattle.layout.specs.Layout.{word}
 use Rattle.layout.specs.Description.{Description}
 use Rattle.register.specs.Line.{registerOf}
 use Rattle.register.specs.declared.Register.{Register}
@@ -32,10 +32,14 @@ use Rattle.adapter.specs.declared.HopFound.{HopFound}
 use Rattle.adapter.specs.declared.HopFound.the-variants as hop
 use Rattle.adapter.specs.declared.EntryFound.{EntryFound}
 use Rattle.adapter.specs.declared.EntryFound.the-variants as entry
+use Rattle.paths.specs.Reading.{fieldsFor, readBy}
+use Rattle.paths.specs.declared.EntryFields.{EntryFields}
+use Rattle.paths.proofs.Laws.{entry-read}
 use Rattle.tables.specs.Rows.{EntryRow}
 use Rattle.tables.specs.Packed.{entryWord, entriesIn}
 use Rattle.load.specs.Loading.{owned}
-use Rattle.load.specs.Work.{pushedRows, OneMore, Passed, PushedWithin}
+use Rattle.load.specs.Work.{pushedRows, lookedAt, FieldsAt, KeptFor, OneMore, Passed, PushedWithin}
+use Rattle.load.specs.declared.Kept.{Kept}
 use Rattle.load.specs.declared.Pushed.{Pushed}
 use Rattle.load.specs.declared.Pushed.the-variants as pushed
 
@@ -89,49 +93,72 @@ rows-joined f E (value es) (value fs) = ap (λ l. value l) (ap (λ l. E ++ l) (m
 one-more : (f : ℕ → EntryRow) (t : List ℕ) (n w : ℕ) (x : EntryRow) → n < length t → f w ≡ x → map f (take (n + 1) (set t n w)) ≡ map f (take n t) ++ (x ∷ [])
 one-more f t n w x l e = rw (add-one n, take-suc-set t n w l, map-append f (take n t) (w ∷ []), e) refl
 
--- push_entry, over the words t of a survey and the table en
-module _ (ds : List Description) (s : Site) (k least : ℕ) (t : List ℕ) (i : ℕ) (en : List ℕ) (n w : ℕ) (ew : w ≡ word t i) where
-  abbrev answer : List ℕ → Pushed → Type 0
-  answer en′ p = (pushedRows s en′ p ≡ behind s en n (entriesFrom ds s k least (registerAt t i ∷ []))) × OneMore n (i + 4) p
-
-  offset-is : registerAt t i .offset ≡ w % 65536
-  unfolding registerAt registerIn registerOf
-  offset-is = ap (λ x. x % 65536) (sym ew)
-
+-- what is looked at, by a register's head w
+module _ (least : ℕ) (t : List ℕ) (i w : ℕ) (ew : w ≡ word t i) where
   abbrev looked-at-here : Bool
   looked-at-here = leb (2 * least) (w % 65536) && eqb (w % 65536 % 2) 0
 
-  there : (b : Bool) → looked-at-here ≡ b → (leb (2 * least) (registerAt t i .offset) && eqb (registerAt t i .offset % 2) 0) ≡ b
-  there b e = ap (λ x. leb (2 * least) x && eqb (x % 2) 0) offset-is ∙ e
+  there : (b : Bool) → looked-at-here ≡ b → lookedAt least (registerAt t i) ≡ b
+  unfolding registerAt registerIn registerOf
+  there b e = ap (λ x. leb (2 * least) (x % 65536) && eqb (x % 65536 % 2) 0) (sym ew) ∙ e
 
-  pub push-none : looked-at-here ≡ false → answer en (pushed.Entries n (i + 4))
+-- keep, over the words t of a survey
+module _ (ds : List Description) (k least : ℕ) (t : List ℕ) (i w : ℕ) (ew : w ≡ word t i) where
+  pub keep-none : looked-at-here least t i w ew ≡ false → (f : EntryFields) → FieldsAt ds k least (registerAt t i) f
+  unfolding FieldsAt
+  keep-none e f l = absurd (false≢true (sym (there least t i w ew false e) ∙ l))
+
+  pub keep-ids : (ids vs : ℕ) → ids ≡ word t (i + 1) → vs ≡ word t (i + 2) → (x : Kept) → KeptFor ds k x → x .ids ≡ ids → x .vs ≡ vs → FieldsAt ds k least (registerAt t i) (x .fields)
+  unfolding FieldsAt KeptFor fieldsFor named registerAt registerIn registerOf
+  keep-ids ids vs ei ev x h a b l = h ∙ ap (λ z. fieldsFor ds k z (x .vs)) (a ∙ ei) ∙ ap (λ z. fieldsFor ds k (word t (i + 1)) z) (b ∙ ev)
+
+  pub keep-new : (ids vs : ℕ) → ids ≡ word t (i + 1) → vs ≡ word t (i + 2) → (f : EntryFields) → f ≡ fieldsFor ds k ids vs → KeptFor ds k (record { ids = ids; vs = vs; fields = f }) × FieldsAt ds k least (registerAt t i) f
+  unfolding KeptFor
+  keep-new ids vs ei ev f h = (h, keep-ids ids vs ei ev (record { ids = ids; vs = vs; fields = f }) h refl refl)
+
+-- push_entry, over the words t of a survey and the table en
+module _ (s : Site) (least : ℕ) (t : List ℕ) (i : ℕ) (en : List ℕ) (n w : ℕ) (ew : w ≡ word t i) (fs : EntryFields) where
+  abbrev answer : List ℕ → Pushed → Type 0
+  answer en′ p = ((ds : List Description) (k : ℕ) → FieldsAt ds k least (registerAt t i) fs → pushedRows s en′ p ≡ behind s en n (entriesFrom ds s k least (registerAt t i ∷ []))) × OneMore n (i + 4) p
+
+  pub push-none : looked-at-here least t i w ew ≡ false → answer en (pushed.Entries n (i + 4))
   unfolding OneMore
-  push-none e = (none-behind s en n (i + 4) _ (entries-none ds s k least (registerAt t i) (there false e)), (omega arith, omega arith, refl))
+  push-none e = (λ ds k h. none-behind s en n (i + 4) _ (entries-none ds s k least (registerAt t i) (there least t i w ew false e)), (omega arith, omega arith, refl))
 
-  module _ (l : looked-at-here ≡ true) (ids vs v : ℕ) (ei : ids ≡ word t (i + 1)) (ev : vs ≡ word t (i + 2)) (ex : v ≡ word t (i + 3)) (f : EntryFound)
-      (e : (z : Site) → entryOutcome z (low w 15) f ≡ entryOf z (registerIn w ids vs v) (named ds pathSpace k (registerIn w ids vs v))) where
-    entry-is : entryOf s (registerAt t i) (named ds pathSpace k (registerAt t i)) ≡ entryOutcome s (low w 15) f
-    unfolding registerAt
-    entry-is = sym (e s ∙ ap (λ r. entryOf s r (named ds pathSpace k r)) same)
-      where
-        same : registerIn w ids vs v ≡ registerIn (word t i) (word t (i + 1)) (word t (i + 2)) (word t (i + 3))
-        same = rw (ew, ei, ev, ex) refl
+  module _ (l : looked-at-here least t i w ew ≡ true) (v : ℕ) (ex : v ≡ word t (i + 3)) (f : EntryFound) (e : f ≡ readBy fs v) where
+    offset-is : registerAt t i .offset ≡ w % 65536
+    unfolding registerAt registerIn registerOf
+    offset-is = ap (λ x. x % 65536) (sym ew)
 
-    one-is : entriesFrom ds s k least (registerAt t i ∷ []) ≡ bind (entryOutcome s (low w 15) f) (λ x. value (withEntry x []))
-    one-is = entries-one ds s k least (registerAt t i) (there true l) ∙ ap (λ o. bind o (λ x. value (withEntry x []))) entry-is
+    value-is : registerAt t i .value ≡ v
+    unfolding registerAt registerIn registerOf
+    value-is = sym ex
+
+    entry-is : (ds : List Description) (k : ℕ) → FieldsAt ds k least (registerAt t i) fs → entryOf s (registerAt t i) (named ds pathSpace k (registerAt t i)) ≡ entryOutcome s (w % 65536) f
+    unfolding FieldsAt
+    entry-is ds k h =
+        sym (entry-read s (registerAt t i) (named ds pathSpace k (registerAt t i)))
+        ∙ ap (λ z. entryOutcome s (registerAt t i .offset) (readBy z (registerAt t i .value))) (sym (h (there least t i w ew true l)))
+        ∙ ap (λ z. entryOutcome s (registerAt t i .offset) (readBy fs z)) value-is
+        ∙ ap (λ z. entryOutcome s z (readBy fs v)) offset-is
+        ∙ ap (λ z. entryOutcome s (w % 65536) z) (sym e)
+
+    one-is : (ds : List Description) (k : ℕ) → FieldsAt ds k least (registerAt t i) fs → (g : EntryFound) → f ≡ g → behind s en n (entriesFrom ds s k least (registerAt t i ∷ [])) ≡ behind s en n (bind (entryOutcome s (w % 65536) g) (λ x. value (withEntry x [])))
+    one-is ds k h g z =
+        ap (λ o. behind s en n o)
+        (entries-one ds s k least (registerAt t i) (there least t i w ew true l) ∙ ap (λ o. bind o (λ x. value (withEntry x []))) (entry-is ds k h ∙ ap (λ y. entryOutcome s (w % 65536) y) z))
 
     pub push-refused : f ≡ entry.NoField → answer en pushed.NoField
     unfolding pushedRows bind entryOutcome OneMore refusalOf
-    push-refused z = (sym (ap (λ o. behind s en n o) (one-is ∙ ap (λ y. bind (entryOutcome s (low w 15) y) (λ x. value (withEntry x []))) z)), omega arith)
+    push-refused z = (λ ds k h. sym (one-is ds k h entry.NoField z), omega arith)
 
     pub push-invalid : f ≡ entry.Invalid → answer en (pushed.Entries n (i + 4))
     unfolding entryOutcome bind withEntry OneMore
-    push-invalid z = (none-behind s en n (i + 4) _ (one-is ∙ ap (λ y. bind (entryOutcome s (low w 15) y) (λ x. value (withEntry x []))) z), (omega arith, omega arith, refl))
+    push-invalid z = (λ ds k h. none-behind s en n (i + 4) _ refl ∙ sym (one-is ds k h entry.Invalid z), (omega arith, omega arith, refl))
 
     pub push-valid : (out hop x : ℕ) → f ≡ entry.Entry out hop → n < length en → entryWord x ≡ record { device = s .place; adapter = s .adapter; inHop = w % 65536 / 2; outAdapter = out; outHop = hop } → answer (set en n x) (pushed.Entries (n + 1) (i + 4))
     unfolding pushedRows entryOutcome bind withEntry owned OneMore
-    push-valid out hop x z h y =
-        (ap (λ l. value l) (one-more entryWord en n x _ h y) ∙ sym (ap (λ o. behind s en n o) (one-is ∙ ap (λ y. bind (entryOutcome s (low w 15) y) (λ x. value (withEntry x []))) z)), (omega arith, omega arith, refl))
+    push-valid out hop x z h y = (λ ds k m. ap (λ l. value l) (one-more entryWord en n x _ h y) ∙ sym (one-is ds k m (entry.Entry out hop) z), (omega arith, omega arith, refl))
 
 -- push_from, over the words t of a survey and the table en₀ that holds n entries at first: count entries so far, those of the registers from `at` on are left, and the next register is at i
 module _ (ds : List Description) (s : Site) (k least : ℕ) (t en₀ : List ℕ) (from n : ℕ) where

@@ -1,25 +1,32 @@
 -- For the contracts of private functions only. No promise to a caller rests on these. Assumes nothing.
-use Prim.Native.Nat.{ℕ, _+_, _*_, _≤_, _<_}
+use Prim.Native.Nat.{ℕ, _+_, _*_, _%_, _≤_, _<_}
 use mathlib.Core.Path.{_≡_}
+use mathlib.Core.Bool.{Bool, true, _&&_}
 use mathlib.Core.List.{List, [], _∷_}
 use mathlib.Core.Option.{Option}
+use lib.Dec.{leb, eqb}
 use lib.ListN.{length, take}
 use Rattle.refusal.specs.Outcome.{Outcome, value}
 use Rattle.refusal.specs.Refusal.{refusalOf}
 use Rattle.refusal.specs.declared.Site.{Site}
 use Rattle.refusal.specs.declared.Fault.the-variants.{NoField}
 use Rattle.layout.specs.Layout.{word, kind}
+use Rattle.layout.specs.Description.{Description}
+use Rattle.register.specs.declared.Register.{Register}
 use Rattle.listing.specs.After.{after}
 use Rattle.adapter.specs.declared.MaxHop.{MaxHop}
 use Rattle.adapter.specs.declared.MaxHop.the-variants as most
 use Rattle.survey.specs.Devices.{Adapter}
-use Rattle.named.specs.Named.{Named}
+use Rattle.named.specs.Named.{Named, pathSpace, named}
+use Rattle.paths.specs.Reading.{entryFields, fieldsFor}
+use Rattle.paths.specs.declared.EntryFields.{EntryFields}
 use Rattle.load.specs.Loading.{fitting}
 use Rattle.tables.specs.Rows.{EntryRow, DeviceRow, Rows}
 use Rattle.tables.specs.Packed.{adapterWord, deviceWord, entriesIn, adaptersIn, devicesIn}
 use Rattle.load.specs.Answers.{refusedBy}
 use Rattle.load.specs.declared.LoadAnswer.{LoadAnswer}
 use Rattle.load.specs.declared.LoadAnswer.the-variants as answer
+use Rattle.load.specs.declared.Kept.{Kept}
 use Rattle.load.specs.declared.Pushed.{Pushed}
 use Rattle.load.specs.declared.Pushed.the-variants as pushed
 use Rattle.load.specs.declared.AdapterLoad.{AdapterLoad}
@@ -47,6 +54,18 @@ rowsSoFar en ad = record { entries = entriesIn en; adapters = adaptersIn ad; dev
 unfoldable pub pushedRows : Site → List ℕ → Pushed → Outcome (List EntryRow)
 pushedRows s en (pushed.Entries c next) = value (entriesIn (take c en))
 pushedRows s en pushed.NoField = refusalOf (NoField s)
+
+-- a path register that is looked at
+abbrev pub lookedAt : ℕ → Register → Bool
+lookedAt least r = leb (2 * least) (r .offset) && eqb (r .offset % 2) 0
+
+-- the fields of a register, where it is looked at
+unfoldable pub FieldsAt : List Description → ℕ → ℕ → Register → EntryFields → Type 0
+FieldsAt ds k least r f = lookedAt least r ≡ true → f ≡ entryFields (named ds pathSpace k r)
+
+-- fields that are kept are those of the ids beside them
+unfoldable pub KeptFor : List Description → ℕ → Kept → Type 0
+KeptFor ds k x = x .fields ≡ fieldsFor ds k (x .ids) (x .vs)
 
 -- at most one entry more
 unfoldable pub OneMore : ℕ → ℕ → Pushed → Type 0

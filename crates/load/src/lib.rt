@@ -2,11 +2,11 @@
 ghost use Prim.Native.Nat.{ℕ, _+_, _*_, _≤_, _<_};
 ghost use mathlib.Core.Path.{_≡_};
 ghost use lib.Dec.{eqb};
-ghost use mathlib.Core.List.{[], _∷_, map, _++_};
+ghost use mathlib.Core.List.{List, [], _∷_, map, _++_};
 ghost use lib.ListN.{length, take};
 ghost use Rattle.refusal.specs.Outcome.{value, bind};
 ghost use Rattle.refusal.specs.declared.Site.{Site};
-ghost use Rattle.layout.specs.Description.{descriptionsOf};
+ghost use Rattle.layout.specs.Description.{Description, descriptionsOf};
 ghost use Rattle.usb4.specs.Numbers.{typeNumber};
 ghost use Rattle.usb4.specs.Codes.{deviceKindOf};
 ghost use Rattle.named.specs.Named.{namedAt, Within};
@@ -19,7 +19,7 @@ ghost use Rattle.tables.specs.Found.{upstreamOutcome};
 ghost use Rattle.tables.specs.Packed.{speedBy, numberBy, upstreamBy, entryWord, adapterWord, deviceWord, entriesIn};
 ghost use Rattle.load.specs.Loading.{andThen, owned, loadAdapter, loadAdapters, routerCs1, upstreamIn, fitting, loadDevice, loadFrom, loaded};
 ghost use Rattle.load.specs.Answers.{loadedRows, UsableBy};
-ghost use Rattle.load.specs.Work.{HopFits, rowsSoFar, pushedRows, OneMore, PushedWithin, adapterRows, AdapterWithin, adaptersRows, AdaptersWithin, fitOutcome, fitsBy, deviceLoadRows, DeviceWithin, filledRows, FilledWithin, intoRows, IntoWithin};
+ghost use Rattle.load.specs.Work.{HopFits, rowsSoFar, pushedRows, FieldsAt, KeptFor, OneMore, PushedWithin, adapterRows, AdapterWithin, adaptersRows, AdaptersWithin, fitOutcome, fitsBy, deviceLoadRows, DeviceWithin, filledRows, FilledWithin, intoRows, IntoWithin};
 use adapter::Decoded;
 use adapter::EntryFound;
 use adapter::Facts;
@@ -27,6 +27,7 @@ use adapter::HopFound;
 use adapter::MaxHop;
 use named::FieldRead;
 use named::NamedFound;
+use paths::EntryFields;
 use refusal::Fault;
 use refusal::Site;
 use state::SpeedFound;
@@ -64,6 +65,13 @@ pub struct Loaded {
 pub enum Pushed {
     Entries { count: usize, next: usize },
     NoField,
+}
+
+// The fields of path registers with these ids.
+pub struct Kept {
+    pub ids: u32,
+    pub vs: u32,
+    pub fields: EntryFields,
 }
 
 // An adapter's word, the entries so far and where its words end, or what refuses it.
@@ -195,33 +203,50 @@ fn mark_word(kind: u32, usb4: bool, domain: u32, upstream: Upstream) -> u64
         + (domain as u64)
 }
 
+// The fields for the path register at i: those that are kept, unless it is looked at and has other ids.
+fn keep(descriptions: &[u32], survey: &[u32], i: usize, kind: u32, least: u32, kept: Kept) -> Kept
+    requires { ⌜ (i + 4 ≤ length (now survey)) × KeptFor (descriptionsOf (now descriptions)) kind kept ⌝ }
+    ensures { λ r. ⌜ KeptFor (descriptionsOf (now (descriptions .entry))) kind r × FieldsAt (descriptionsOf (now (descriptions .entry))) kind least (registerAt (now (survey .entry)) i) (r .fields) ⌝ }
+{
+    if !paths::looked_at(layout::word_at(survey, i) % 65536, least) {
+        return kept;
+    }
+    let ids = layout::word_at(survey, i + 1);
+    let vs = layout::word_at(survey, i + 2);
+    if kept.ids == ids {
+        if kept.vs == vs {
+            return kept;
+        }
+    }
+    Kept {
+        ids,
+        vs,
+        fields: paths::fields_of(descriptions, kind, ids, vs),
+    }
+}
+
 // Puts the entry of the path register at i, if it is one, at place n of the entries.
 fn push_entry(
-    descriptions: &[u32],
     survey: &[u32],
     i: usize,
-    kind: u32,
     least: u32,
+    fields: EntryFields,
     site: Site,
     entries: &mut [u64],
     n: usize,
 ) -> Pushed
     requires { ⌜ (i + 4 ≤ length (now survey)) × (n < length (now entries)) × (site .place < 65536) × (least < 65536) ⌝ }
-    ensures { λ r. ⌜ pushedRows site (now (entries .exit)) r ≡ bind (entriesFrom (descriptionsOf (now (descriptions .entry))) site kind least (registerAt (now (survey .entry)) i ∷ [])) (λ es. value (entriesIn (take n (now (entries .entry))) ++ map (owned (site .place) (site .adapter)) es)) ⌝ }
+    ensures { λ r. ⌜ ((ds : List Description) (k : ℕ) → FieldsAt ds k least (registerAt (now (survey .entry)) i) fields → pushedRows site (now (entries .exit)) r ≡ bind (entriesFrom ds site k least (registerAt (now (survey .entry)) i ∷ [])) (λ es. value (entriesIn (take n (now (entries .entry))) ++ map (owned (site .place) (site .adapter)) es))) ⌝ }
     ensures { λ r. ⌜ OneMore n (i + 4) r ⌝ }
 {
-    let w = layout::word_at(survey, i);
-    let offset = w % 65536;
+    let offset = layout::word_at(survey, i) % 65536;
     if !paths::looked_at(offset, least) {
         return Pushed::Entries {
             count: n,
             next: i + 4,
         };
     }
-    let ids = layout::word_at(survey, i + 1);
-    let vs = layout::word_at(survey, i + 2);
-    let value = layout::word_at(survey, i + 3);
-    match paths::entry_of(descriptions, kind, w, ids, vs, value) {
+    match paths::entry_by(fields, layout::word_at(survey, i + 3)) {
         EntryFound::NoField => Pushed::NoField,
         EntryFound::Invalid => Pushed::Entries {
             count: n,
@@ -258,13 +283,22 @@ fn push_from(
     let mut count = n;
     let mut at = from;
     let mut i = listing::next_register(survey, from, true);
+    if survey.len() <= i {
+        return Pushed::Entries { count, next: at };
+    }
+    let mut kept = Kept {
+        ids: 0,
+        vs: 0,
+        fields: paths::fields_of(descriptions, kind, 0, 0),
+    };
     while i < survey.len() {
+        kept = keep(descriptions, survey, i, kind, least, kept);
+        let fields = kept.fields;
         let Pushed::Entries { count: more, next } = push_entry(
-            descriptions,
             survey,
             i,
-            kind,
             least,
+            fields,
             site,
             entries,
             count,

@@ -68,7 +68,8 @@ fn leads_to(fields: EntryFields, value: u32) -> EntryFound
     let FieldFound::Bits {
         start: first,
         end: last,
-    } = out else {
+    } = out
+    else {
         return EntryFound::NoField;
     };
     EntryFound::Entry {
