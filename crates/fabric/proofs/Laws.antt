@@ -1,35 +1,38 @@
 -- Laws on the routes of adapters, on devices of tables and on where a hop leads, step by step. Assumes nothing.
 use Prim.Native.Nat.{ℕ, suc, _+_, _<_}
+use mathlib.Core.Logic.{⊎-elim}
 use mathlib.Core.Bool.{Bool, true, false, cond, _&&_}
-use mathlib.Core.Path.{_≡_, refl, sym, ap, _∙_}
+use mathlib.Core.Path.{_≡_, refl, sym, ap, _∙_, subst}
 use mathlib.Core.List.{List, [], _∷_}
 use mathlib.Core.Option.{Option, none, some, Option·some-injective, Option·none-ne-some}
 use native.Mathlib.Omega.{arith}
 use native.Mathlib.Decide.{decLt}
 use lib.Dec.{eqb}
 use lib.ListN.{length}
-use borrow.Author.Tests.{eq-eqb, ne-eqb}
+use borrow.Author.Tests.{eq-eqb, ne-eqb, eqb-true}
+use denote.Enum.Declared.{tagOf}
+use types.Run.{OneOf}
 use Rattle.refusal.specs.Outcome.{Outcome, refused, value, bind}
-use Rattle.refusal.specs.declared.Fault.the-variants.{NoParentRoute, NoDownstreamRoute}
+use Rattle.refusal.specs.Refusal.{refusalOf}
+use Rattle.refusal.specs.declared.Fault.{Fault}
+use Rattle.refusal.specs.declared.Fault.the-variants.{NoParentRoute, NoDownstreamRoute, NoOutAdapter}
 use Rattle.usb4.specs.Numbers.{typeNumber}
 use Rattle.usb4.specs.declared.AdapterType.{AdapterType}
 use Rattle.route.specs.Route.{upstreamRoute, downstreamRoute, downstreamAdapter}
 use Rattle.route.specs.declared.RouteFound.{RouteFound}
 use Rattle.route.specs.declared.AdapterFound.{AdapterFound}
 use Rattle.adapter.specs.Adapter.{AdapterRow, adapterSite, isLane}
-use Rattle.tables.specs.Rows.{DeviceRow, Rows, adapterIn, deviceIn, isRouter, routerFrom}
+use Rattle.tables.specs.Rows.{EntryRow, DeviceRow, Rows, adapterIn, deviceIn, isRouter, routerFrom}
 use Rattle.tables.specs.Packed.{Sorted, adapterUnit, adaptersIn, deviceWord, devicesFrom, devicesIn}
-use Rattle.tables.specs.Found.{AdapterSought, adapterFound}
-use Rattle.tables.specs.declared.AdapterFound.{AdapterFound as Found}
 use Rattle.tables.proofs.Laws.{device-past-routes}
-use Rattle.load.specs.Answers.{refusedBy, present, askedDevice}
-use Rattle.load.specs.declared.Refusal.{Refusal}
-use Rattle.load.proofs.Result.{refused-bind}
-use Rattle.fabric.specs.Links.{isUpstream, upstreamRouteOf, downstreamRouteOf, routeOr, routeOutcome}
-use Rattle.fabric.specs.Fabric.{Way, Way.last, standBy, upBy, arriveUp, downBy, arriveDown, toDevice, toRouter, toRoute, leadsFrom, leadsBy, leads}
-use Rattle.fabric.specs.Tables.{InOrder}
-use Rattle.fabric.specs.declared.RouteAnswer.{RouteAnswer}
-use Rattle.fabric.specs.declared.RouteAnswer.the-variants as route-answer
+use Rattle.search.specs.Lanes.{laneIf, laneFound, LaneSought}
+use Rattle.search.specs.declared.LaneAt.{LaneAt}
+use Rattle.search.specs.declared.LaneAt.the-variants as lane
+use Rattle.search.proofs.LaneAt as lane-type
+use Rattle.load.specs.Answers.{present, askedDevice}
+use Rattle.fabric.specs.Links.{isUpstream, upstreamRouteOf, downstreamRouteOf, routeOr}
+use Rattle.fabric.specs.Fabric.{Way, Way.on, Way.last, Way.dropped, standBy, upBy, arriveUp, downBy, arriveDown, toDevice, toRouter, toRoute, leadsFrom, leadsBy, leads}
+use Rattle.fabric.specs.Tables.{InOrder, rowsWith}
 
 -- ---- routes
 
@@ -62,19 +65,9 @@ module _ (p : ℕ) (d : DeviceRow) (x : AdapterRow) where
   unfolding downstreamRouteOf
   down-route e f h = rw (e, h) refl
 
--- what follows an answered route
-module _ {B : Type 0} (a : RouteAnswer) (o : Outcome (Option ℕ)) (k : Option ℕ → Outcome B) (e : routeOutcome a ≡ o) where
-  pub route-refused : (r : Refusal) → a ≡ route-answer.Refused r → refusedBy r ≡ bind o k
-  unfolding routeOutcome
-  route-refused r g = sym (refused-bind r k) ∙ ap (λ (b : RouteAnswer). bind (routeOutcome b) k) (sym g) ∙ ap (λ (z : Outcome (Option ℕ)). bind z k) e
-
-  pub route-none : a ≡ route-answer.None → k none ≡ bind o k
-  unfolding routeOutcome bind
-  route-none g = ap (λ (b : RouteAnswer). bind (routeOutcome b) k) (sym g) ∙ ap (λ (z : Outcome (Option ℕ)). bind z k) e
-
-  pub route-some : (r : ℕ) → a ≡ route-answer.Route r → k (some r) ≡ bind o k
-  unfolding routeOutcome bind
-  route-some r g = ap (λ (b : RouteAnswer). bind (routeOutcome b) k) (sym g) ∙ ap (λ (z : Outcome (Option ℕ)). bind z k) e
+-- what follows a route that was sought
+pub by-route : {B : Type 0} (fault : Fault) (k : Option ℕ → Outcome B) (r f o : RouteFound) → r ≡ f → r ≡ o → bind (routeOr fault f) k ≡ bind (routeOr fault o) k
+by-route fault k r f o e g = ap (λ z. bind (routeOr fault z) k) (sym e ∙ g)
 
 -- ---- devices of tables
 
@@ -110,9 +103,44 @@ router-fits ad ro ma domain route q k e = omega (arith, k .devices, router-below
 
 -- ---- where a hop leads
 
+-- an adapter that was sought: not there, or what it is
+pub lane-none : (y : Option AdapterRow) → none ≡ laneIf y → none ≡ y
+unfolding laneIf
+lane-none none e = refl
+lane-none (some y) e = absurd (Option·none-ne-some (isLane (y .kind)) e)
+
+lane-some : (y : Option AdapterRow) (b : Bool) → some b ≡ laneIf y → (z : AdapterRow) × (some z ≡ y) × (isLane (z .kind) ≡ b)
+unfolding laneIf
+lane-some none b e = absurd (Option·none-ne-some b (sym e))
+lane-some (some y) b e = (y, refl, sym (Option·some-injective b (isLane (y .kind)) e))
+
+has-number : (xs : List AdapterRow) (p a : ℕ) (z : AdapterRow) → adapterIn xs p a ≡ some z → z .number ≡ a
+unfolding adapterIn
+has-number [] p a z e = absurd (Option·none-ne-some z e)
+has-number (x ∷ xs) p a z e = go (eqb (x .device) p) (eqb (x .number) a) refl (has-number xs p a z) e
+  where
+    go : (b c : Bool) → eqb (x .number) a ≡ c → (adapterIn xs p a ≡ some z → z .number ≡ a) → cond (b && c) (some x) (adapterIn xs p a) ≡ some z → z .number ≡ a
+    go true true q rest f = sym (ap (λ (y : AdapterRow). y .number) (Option·some-injective x z f)) ∙ eqb-true (x .number) a q
+    go true false q rest f = rest f
+    go false true q rest f = rest f
+    go false false q rest f = rest f
+
 -- at an adapter that was sought
-pub stood : (t : List ℕ) (q n : ℕ) (r b : Found) → AdapterSought t q n r → r ≡ b → Sorted adapterUnit t → q < 65536 → value (standBy q n (adapterFound q b)) ≡ value (standBy q n (adapterIn (adaptersIn t) q n))
-stood t q n r b h e s l = ap (λ (o : Option AdapterRow). value (standBy q n o)) (ap (adapterFound q) (sym e) ∙ h .first l s)
+module _ (t : List ℕ) (q n : ℕ) (r : LaneAt) (h : LaneSought t q n r) (s : Sorted adapterUnit t) (l : q < 65536) where
+  pub stood-nowhere : r ≡ lane.Nowhere → value dropped ≡ value (standBy q n (adapterIn (adaptersIn t) q n))
+  unfolding laneFound standBy
+  stood-nowhere e = ap (λ (o : Option AdapterRow). value (standBy q n o)) (lane-none (adapterIn (adaptersIn t) q n) (sym (ap laneFound e) ∙ h .first l s))
+
+  pub stood : (b : Bool) → laneFound r ≡ some b → value (on q n) ≡ value (standBy q n (adapterIn (adaptersIn t) q n))
+  unfolding standBy
+  stood b e = ap (λ (o : Option AdapterRow). value (standBy q n o)) (lane-some (adapterIn (adaptersIn t) q n) b (sym e ∙ h .first l s) .1)
+
+-- what is found, but for an adapter that isn't there
+pub there-or-not : (r : LaneAt) → OneOf (0 ∷ 1 ∷ []) (tagOf lane-type.the-type r) → (b : Bool) × (laneFound r ≡ some b)
+unfolding laneFound
+there-or-not lane.Lane k = (true, refl)
+there-or-not lane.Other k = (false, refl)
+there-or-not lane.Nowhere k = absurd (⊎-elim (λ y. omega arith) (λ y. omega arith) k)
 
 -- to the router at a route: none there, its device lost, or there
 module _ (x : Rows) (d : DeviceRow) (r : ℕ) (f : ℕ → DeviceRow → Outcome Way) where
@@ -134,15 +162,27 @@ module _ (x : Rows) (d : DeviceRow) (r q : ℕ) (e : DeviceRow) (at : some q ≡
   unfolding arriveDown toDevice
   went-down o g = ap (λ (z : Outcome (Option ℕ)). bind z (λ n. value (downBy x q n))) g ∙ to-device x d r (arriveDown x) q (some e) at there
 
--- from an out adapter that is there
+-- from an out adapter that is there: one that is no lane, or a lane with a number
 module _ (x : Rows) (p : ℕ) (d : DeviceRow) (y : AdapterRow) where
-  pub from-up : isUpstream (d .upstream) (y .number) ≡ true → bind (upstreamRouteOf p d y) (λ r. toRoute x d r (arriveUp x d)) ≡ leadsFrom x p d y
-  unfolding leadsFrom
-  from-up e = ap (λ (b : Bool). cond b (bind (upstreamRouteOf p d y) (λ r. toRoute x d r (arriveUp x d))) (bind (downstreamRouteOf p d y) (λ r. toRoute x d r (arriveDown x)))) (sym e)
+  abbrev from : Bool → Outcome Way
+  from b = cond b (bind (upstreamRouteOf p d y) (λ r. toRoute x d r (arriveUp x d))) (bind (downstreamRouteOf p d y) (λ r. toRoute x d r (arriveDown x)))
 
-  pub from-down : isUpstream (d .upstream) (y .number) ≡ false → bind (downstreamRouteOf p d y) (λ r. toRoute x d r (arriveDown x)) ≡ leadsFrom x p d y
-  unfolding leadsFrom
-  from-down e = ap (λ (b : Bool). cond b (bind (upstreamRouteOf p d y) (λ r. toRoute x d r (arriveUp x d))) (bind (downstreamRouteOf p d y) (λ r. toRoute x d r (arriveDown x)))) (sym e)
+  from-other : isLane (y .kind) ≡ false → value last ≡ leadsFrom x p d y
+  unfolding leadsFrom bind toRoute
+  from-other e = go (isUpstream (d .upstream) (y .number))
+    where
+      go : (b : Bool) → value last ≡ from b
+      go true = ap (λ o. bind o (λ r. toRoute x d r (arriveUp x d))) (up-no-lane p d y e)
+      go false = ap (λ o. bind o (λ r. toRoute x d r (arriveDown x))) (down-no-lane p d y e)
+
+  module _ (e : isLane (y .kind) ≡ true) where
+    from-up : isUpstream (d .upstream) (y .number) ≡ true → bind (routeOr (NoParentRoute (adapterSite p (y .number))) (upstreamRoute (d .route))) (λ r. toRoute x d r (arriveUp x d)) ≡ leadsFrom x p d y
+    unfolding leadsFrom
+    from-up g = ap (λ o. bind o (λ r. toRoute x d r (arriveUp x d))) (up-route p d y e g _ refl) ∙ ap from (sym g)
+
+    from-down : isUpstream (d .upstream) (y .number) ≡ false → bind (routeOr (NoDownstreamRoute (adapterSite p (y .number))) (downstreamRoute (d .route) (y .number))) (λ r. toRoute x d r (arriveDown x)) ≡ leadsFrom x p d y
+    unfolding leadsFrom
+    from-down g = ap (λ o. bind o (λ r. toRoute x d r (arriveDown x))) (down-route p d y e _ refl) ∙ ap from (sym g)
 
 -- from a device: not there, or by the out adapter that is asked for
 module _ (x : Rows) (p o : ℕ) where
@@ -153,3 +193,38 @@ module _ (x : Rows) (p o : ℕ) where
   pub leads-there : (d : DeviceRow) (y : Option AdapterRow) → some d ≡ deviceIn (x .devices) p → y ≡ adapterIn (x .adapters) p o → leadsBy x p o d y ≡ leads x p o
   unfolding leads askedDevice present bind
   leads-there d y e g = ap (leadsBy x p o d) g ∙ ap (λ (z : Option DeviceRow). bind (present z) (λ v. leadsBy x p o v (adapterIn (x .adapters) p o))) e
+
+-- from a device by an out adapter that was sought
+module _ (es : List EntryRow) (ad ro ma : List ℕ) (p o : ℕ) (k : InOrder ad ro) (d : DeviceRow) (there : some d ≡ deviceIn (devicesIn ro ma) p) (r : LaneAt) (h : LaneSought ad p o r) where
+  abbrev at : Rows
+  at = rowsWith es ad ro ma
+
+  is-lane : laneFound r ≡ laneIf (adapterIn (adaptersIn ad) p o)
+  is-lane = h .first (device-fits ad ro ma p d k there) (k .adapters)
+
+  pub leads-nowhere : r ≡ lane.Nowhere → refusalOf (NoOutAdapter (adapterSite p o)) ≡ leads at p o
+  unfolding rowsWith leadsBy laneFound
+  leads-nowhere e = leads-there at p o d none there (lane-none (adapterIn (adaptersIn ad) p o) (sym (ap laneFound e) ∙ is-lane))
+
+  pub leads-other : r ≡ lane.Other → value last ≡ leads at p o
+  unfolding rowsWith leadsBy laneFound
+  leads-other e = let y = lane-some (adapterIn (adaptersIn ad) p o) false (sym (ap laneFound e) ∙ is-lane) in from-other at p d (y .0) (y .2) ∙ leads-there at p o d (some (y .0)) there (y .1)
+
+  module _ (e : r ≡ lane.Lane) where
+    lane-is : (z : AdapterRow) × (some z ≡ adapterIn (adaptersIn ad) p o) × (isLane (z .kind) ≡ true)
+    unfolding laneFound
+    lane-is = lane-some (adapterIn (adaptersIn ad) p o) true (sym (ap laneFound e) ∙ is-lane)
+
+    -- the out adapter's number is the one that is asked for
+    by-number : (P : ℕ → Type 0) → P (lane-is .0 .number) → P o
+    by-number P = subst P (has-number (adaptersIn ad) p o (lane-is .0) (sym (lane-is .1)))
+
+    from-lane : leadsFrom at p d (lane-is .0) ≡ leads at p o
+    unfolding rowsWith leadsBy
+    from-lane = leads-there at p o d (some (lane-is .0)) there (lane-is .1)
+
+    pub leads-by-up : isUpstream (d .upstream) o ≡ true → bind (routeOr (NoParentRoute (adapterSite p o)) (upstreamRoute (d .route))) (λ r. toRoute at d r (arriveUp at d)) ≡ leads at p o
+    leads-by-up g = by-number (λ n. isUpstream (d .upstream) n ≡ true → bind (routeOr (NoParentRoute (adapterSite p n)) (upstreamRoute (d .route))) (λ r. toRoute at d r (arriveUp at d)) ≡ leads at p o) (λ q. from-up at p d (lane-is .0) (lane-is .2) q ∙ from-lane) g
+
+    pub leads-by-down : isUpstream (d .upstream) o ≡ false → bind (routeOr (NoDownstreamRoute (adapterSite p o)) (downstreamRoute (d .route) o)) (λ r. toRoute at d r (arriveDown at)) ≡ leads at p o
+    leads-by-down g = by-number (λ n. isUpstream (d .upstream) n ≡ false → bind (routeOr (NoDownstreamRoute (adapterSite p n)) (downstreamRoute (d .route) n)) (λ r. toRoute at d r (arriveDown at)) ≡ leads at p o) (λ q. from-down at p d (lane-is .0) (lane-is .2) q ∙ from-lane) g

@@ -4,12 +4,14 @@ ghost use mathlib.Core.Path.{_≡_};
 ghost use mathlib.Core.Option.{some};
 ghost use Rattle.refusal.specs.Outcome.{value, bind};
 ghost use Rattle.refusal.specs.declared.Site.{Site};
-ghost use Rattle.adapter.specs.Adapter.{factsRow};
+ghost use Rattle.refusal.specs.declared.Fault.the-variants.{NoParentRoute, NoDownstreamRoute};
+ghost use Rattle.route.specs.Route.{upstreamRoute, downstreamRoute};
+ghost use Rattle.adapter.specs.Adapter.{adapterSite, factsRow};
 ghost use Rattle.tables.specs.Rows.{adapterIn};
 ghost use Rattle.tables.specs.Packed.{Sorted, adapterUnit, adaptersIn};
 ghost use Rattle.tables.specs.Found.{deviceRow, upstreamOutcome};
-ghost use Rattle.fabric.specs.Links.{isUpstream, upstreamRouteOf, downstreamRouteOf, routeOutcome};
-ghost use Rattle.fabric.specs.Fabric.{standBy, arriveUp, arriveDown, toRoute, leadsFrom, leads};
+ghost use Rattle.fabric.specs.Links.{isUpstream, routeOr, upstreamRouteOf, downstreamRouteOf, routeOutcome};
+ghost use Rattle.fabric.specs.Fabric.{standBy, arriveUp, arriveDown, toRoute, leads};
 ghost use Rattle.fabric.specs.Tables.{nextOutcome, LeadsTo};
 use adapter::Facts;
 use load::Refusal;
@@ -17,6 +19,7 @@ use refusal::Fault;
 use refusal::Site;
 use route::AdapterFound;
 use route::RouteFound;
+use search::LaneAt;
 use tables::DeviceFacts;
 use tables::DeviceFound;
 use tables::RouterFound;
@@ -89,9 +92,9 @@ pub fn downstream_route_of(place: usize, d: DeviceFacts, f: Facts) -> RouteAnswe
 fn stand_at(adapters: &[u64], place: usize, number: u8) -> Next
     ensures { λ r. ⌜ (Sorted adapterUnit (now (adapters .entry)) → place < 65536 → nextOutcome r ≡ value (standBy place number (adapterIn (adaptersIn (now (adapters .entry))) place number))) ⌝ }
 {
-    let tables::AdapterFound::Adapter(_) = search::find_adapter(adapters, place, number) else {
+    if let LaneAt::Nowhere = search::find_lane(adapters, place, number) {
         return Next::Dropped;
-    };
+    }
     Next::On {
         place,
         adapter: number,
@@ -136,72 +139,65 @@ fn go_down(adapters: &[u64], routes: &[u64], marks: &[u64], d: DeviceFacts, rout
     }
 }
 
-// From an upstream adapter.
+// From a lane that is its router's upstream adapter; 11 at depth 0.
 fn leads_up(
     adapters: &[u64],
     routes: &[u64],
     marks: &[u64],
     p: usize,
     d: DeviceFacts,
-    f: Facts,
+    number: u8,
 ) -> Next
-    ensures { λ r. ⌜ LeadsTo (now (adapters .entry)) (now (routes .entry)) (now (marks .entry)) (λ x. bind (upstreamRouteOf p (deviceRow p d) (factsRow p f)) (λ o. toRoute x (deviceRow p d) o (arriveUp x (deviceRow p d)))) r ⌝ }
+    ensures { λ r. ⌜ LeadsTo (now (adapters .entry)) (now (routes .entry)) (now (marks .entry)) (λ x. bind (routeOr (NoParentRoute (adapterSite p number)) (upstreamRoute (d .route))) (λ o. toRoute x (deviceRow p d) o (arriveUp x (deviceRow p d)))) r ⌝ }
 {
-    match upstream_route_of(p, d, f) {
-        RouteAnswer::Refused(refusal) => Next::Refused(refusal),
-        RouteAnswer::None => Next::Last,
-        RouteAnswer::Route(route) => go_up(adapters, routes, marks, d, route),
-    }
+    let RouteFound::Route(route) = route::upstream_route(d.route) else {
+        return Next::Refused(Refusal::Fault(Fault::NoParentRoute(Site {
+            place: p,
+            adapter: number,
+        })));
+    };
+    go_up(adapters, routes, marks, d, route)
 }
 
-// From any other adapter.
+// From any other lane; 12 at depth 8.
 fn leads_down(
     adapters: &[u64],
     routes: &[u64],
     marks: &[u64],
     p: usize,
     d: DeviceFacts,
-    f: Facts,
+    number: u8,
 ) -> Next
-    ensures { λ r. ⌜ LeadsTo (now (adapters .entry)) (now (routes .entry)) (now (marks .entry)) (λ x. bind (downstreamRouteOf p (deviceRow p d) (factsRow p f)) (λ o. toRoute x (deviceRow p d) o (arriveDown x))) r ⌝ }
+    ensures { λ r. ⌜ LeadsTo (now (adapters .entry)) (now (routes .entry)) (now (marks .entry)) (λ x. bind (routeOr (NoDownstreamRoute (adapterSite p number)) (downstreamRoute (d .route) number)) (λ o. toRoute x (deviceRow p d) o (arriveDown x))) r ⌝ }
 {
-    match downstream_route_of(p, d, f) {
-        RouteAnswer::Refused(refusal) => Next::Refused(refusal),
-        RouteAnswer::None => Next::Last,
-        RouteAnswer::Route(route) => go_down(adapters, routes, marks, d, route),
-    }
+    let RouteFound::Route(route) = route::downstream_route(d.route, number) else {
+        return Next::Refused(Refusal::Fault(Fault::NoDownstreamRoute(Site {
+            place: p,
+            adapter: number,
+        })));
+    };
+    go_down(adapters, routes, marks, d, route)
 }
 
-// From an out adapter that is there.
-fn leads_from(
-    adapters: &[u64],
-    routes: &[u64],
-    marks: &[u64],
-    p: usize,
-    d: DeviceFacts,
-    f: Facts,
-) -> Next
-    ensures { λ r. ⌜ LeadsTo (now (adapters .entry)) (now (routes .entry)) (now (marks .entry)) (λ x. leadsFrom x p (deviceRow p d) (factsRow p f)) r ⌝ }
-{
-    let upstream = d.upstream;
-    if is_upstream(upstream, f.number) {
-        return leads_up(adapters, routes, marks, p, d, f);
-    }
-    leads_down(adapters, routes, marks, p, d, f)
-}
-
-// Where a hop from the device at a place leads by an out adapter; 10 where that isn't on the router.
+// Where a hop from the device at a place leads by an out adapter; 10 where that isn't on the router. By one that is no lane it is the last.
 pub fn leads(adapters: &[u64], routes: &[u64], marks: &[u64], place: usize, out_adapter: u8) -> Next
     ensures { λ r. ⌜ LeadsTo (now (adapters .entry)) (now (routes .entry)) (now (marks .entry)) (λ x. leads x place «out_adapter») r ⌝ }
 {
     let DeviceFound::Device(d) = routers::find_device(routes, marks, place) else {
         return Next::Refused(Refusal::Missing);
     };
-    let tables::AdapterFound::Adapter(f) = search::find_adapter(adapters, place, out_adapter) else {
-        return Next::Refused(Refusal::Fault(Fault::NoOutAdapter(Site {
+    match search::find_lane(adapters, place, out_adapter) {
+        LaneAt::Nowhere => Next::Refused(Refusal::Fault(Fault::NoOutAdapter(Site {
             place,
             adapter: out_adapter,
-        })));
-    };
-    leads_from(adapters, routes, marks, place, d, f)
+        }))),
+        LaneAt::Other => Next::Last,
+        LaneAt::Lane => {
+            let upstream = d.upstream;
+            if is_upstream(upstream, out_adapter) {
+                return leads_up(adapters, routes, marks, place, d, out_adapter);
+            }
+            leads_down(adapters, routes, marks, place, d, out_adapter)
+        }
+    }
 }

@@ -4,6 +4,8 @@ ghost use mathlib.Core.Path.{_≡_};
 ghost use Rattle.adapter.specs.Adapter.{factsRow, maxHopOutcome};
 ghost use Rattle.state.specs.State.{speedOutcome};
 ghost use Rattle.search.specs.Ahead.{HopAhead};
+ghost use Rattle.search.specs.Lanes.{LaneSought};
+ghost use Rattle.search.specs.Work.{WordSought};
 ghost use Rattle.tables.specs.Packed.{typeBy, stateBy, speedBy, numberBy, adapterWord};
 ghost use Rattle.tables.specs.Found.{Boundary, EntrySought, AdapterSought};
 ghost use Rattle.refusal.specs.declared.Site.{Site};
@@ -22,18 +24,33 @@ pub enum HopAt {
     None,
 }
 
+// An adapter's word, or there is none.
+pub enum WordAt {
+    Word(u64),
+    Nowhere,
+}
+
+// An adapter that is a lane, one of another kind, or there is none.
+pub enum LaneAt {
+    Lane,
+    Other,
+    Nowhere,
+}
+
 // Where the words that are not below a bound begin, in words that are in order.
 fn seek(table: &[u64], bound: u64) -> usize
     ensures { λ r. ⌜ Boundary (now (table .entry)) bound r ⌝ }
 {
     let mut lo: usize = 0;
-    let mut hi = table.len();
-    while lo < hi {
-        let mid = lo + (hi - lo) / 2;
+    let mut left = table.len();
+    while 0 < left {
+        let half = left / 2;
+        let mid = lo + half;
         if table[mid] < bound {
             lo = mid + 1;
+            left = left - half - 1;
         } else {
-            hi = mid;
+            left = half;
         }
     }
     lo
@@ -202,21 +219,44 @@ fn facts_of(w: u64) -> Facts
     }
 }
 
-// The adapter of a device with a number.
-pub fn find_adapter(adapters: &[u64], place: usize, number: u8) -> AdapterFound
-    ensures { λ r. ⌜ AdapterSought (now (adapters .entry)) place number r ⌝ }
+// The word of the adapter of a device with a number.
+fn adapter_word(adapters: &[u64], place: usize, number: u8) -> WordAt
+    ensures { λ r. ⌜ WordSought (now (adapters .entry)) place number r ⌝ }
 {
     if 65535 < place {
-        return AdapterFound::Nowhere;
+        return WordAt::Nowhere;
     }
     let key = (place as u64) * 256 + (number as u64);
     let i = seek(adapters, key * 1099511627776);
     if adapters.len() <= i {
-        return AdapterFound::Nowhere;
+        return WordAt::Nowhere;
     }
     let w = adapters[i];
     if w / 1099511627776 != key {
-        return AdapterFound::Nowhere;
+        return WordAt::Nowhere;
     }
+    WordAt::Word(w)
+}
+
+// The adapter of a device with a number.
+pub fn find_adapter(adapters: &[u64], place: usize, number: u8) -> AdapterFound
+    ensures { λ r. ⌜ AdapterSought (now (adapters .entry)) place number r ⌝ }
+{
+    let WordAt::Word(w) = adapter_word(adapters, place, number) else {
+        return AdapterFound::Nowhere;
+    };
     AdapterFound::Adapter(facts_of(w))
+}
+
+// Whether the adapter of a device with a number is a lane: no more of it than a walk asks.
+pub fn find_lane(adapters: &[u64], place: usize, number: u8) -> LaneAt
+    ensures { λ r. ⌜ LaneSought (now (adapters .entry)) place number r ⌝ }
+{
+    let WordAt::Word(w) = adapter_word(adapters, place, number) else {
+        return LaneAt::Nowhere;
+    };
+    if w / 65536 % 16 == 2 {
+        return LaneAt::Lane;
+    }
+    LaneAt::Other
 }

@@ -1,31 +1,23 @@
-use Rattle.fabric.proofs.Laws.{stood}
-use Rattle.tables.specs.Found.{adapterFound}
-use Rattle.fabric.specs.Fabric.{standBy}
+-- `fabric::stand_at` meets its contract.
 use Rattle.fabric.specs.Tables.{nextOutcome}
+use Rattle.fabric.proofs.Laws.{stood, stood-nowhere, there-or-not}
 use borrow.Author.Needs.{needs}
 use Rattle.fabric.proofs.stand_at.Statement.{statement}
 use Rattle.fabric.proofs.stand_at.Tie as tie
 
--- src/lib.rt:92:44
-find-adapter-requires : tie.Need-find-adapter-requires
-find-adapter-requires c κs = search needs
+find-lane-requires : tie.Need-find-lane-requires
+find-lane-requires c κs = search needs
 
 enum-told : tie.Need-enum-told
 enum-told c = search needs
 
--- src/lib.rt:93:9
-enum-told-2 : tie.Need-enum-told-2
-enum-told-2 c = search needs
-
--- src/lib.rt:93:9
 returns : tie.Need-returns
-unfolding nextOutcome standBy adapterFound
-returns c = λ s l. stood _ _ _ _ _ (c .before .before .find-adapter .ensures) (c .enum-told2 .given .1) s l
+unfolding nextOutcome
+returns c = λ s l. stood-nowhere _ _ _ _ (c .before .before .find-lane .ensures) s l (c .enum-told .given .1)
 
--- src/lib.rt:89:1
 returns-2 : tie.Need-returns-2
-unfolding nextOutcome standBy adapterFound
-returns-2 c = λ s l. stood _ _ _ _ _ (c .before .before .find-adapter .ensures) (c .enum-told .given .1) s l
+unfolding nextOutcome
+returns-2 c = λ s l. let w = there-or-not _ (c .match .keys2) in stood _ _ _ _ (c .before .find-lane .ensures) s l (w .0) (w .1)
 
 pub stand-at-spec : {M : Type 1} → statement M
-stand-at-spec = tie.close (tie.spec find-adapter-requires enum-told enum-told-2 returns returns-2)
+stand-at-spec = tie.close (tie.spec find-lane-requires enum-told returns returns-2)
