@@ -2,22 +2,24 @@
 use Prim.Native.Nat.{ℕ, _+_, _*_, _≤_, _<_}
 use mathlib.Core.Path.{_≡_, refl, sym, ap, _∙_, subst}
 use mathlib.Core.Bool.{Bool, true, false, cond, true≢false}
-use mathlib.Core.List.{List, [], _∷_}
+use mathlib.Core.List.{List, [], _∷_, _++_, append-nil}
 use mathlib.Core.Option.{Option, none, some}
 use native.Mathlib.Omega.{arith}
 use native.Mathlib.Decide.{decLt}
 use lib.Dec.{ltb}
-use lib.ListN.{length, drop}
+use lib.ListN.{length, getD, take, drop, set, length-map, length-set, drop-of-length-le}
+use lib.Seq.{length-take-le, length-front, drop-at, drop-set-lt}
 use borrow.Author.Tests.{lt-ltb, le-ltb, ltb-true}
 use Rattle.refusal.specs.Outcome.{Outcome, refused, value, bind}
 use Rattle.tables.specs.Rows.{EntryRow}
-use Rattle.tables.specs.Packed.{entriesIn}
+use Rattle.tables.specs.Packed.{entryWord, entriesIn}
 use Rattle.tables.proofs.Laws.{device-past-routes}
 use Rattle.load.specs.Answers.{refusedBy}
+use Rattle.load.specs.Loading.{validEntries}
 use Rattle.load.specs.declared.Refusal.{Refusal}
 use Rattle.load.proofs.Result.{refused-bind}
 use Rattle.orbit.specs.Walk.{hopsN}
-use Rattle.orbit.proofs.Orbit.{reach-start, reach-ends, reach-stops}
+use Rattle.orbit.proofs.Orbit.{reach-start, reach-ends, reach-stops, ends-within}
 use Rattle.fabric.specs.Fabric.{leads}
 use Rattle.fabric.specs.Tables.{rowsWith}
 use Rattle.fabric.proofs.Laws.{leads-missing}
@@ -26,13 +28,13 @@ use Rattle.walk.specs.Rule.{settled, walkFrom, inRoom}
 use Rattle.walk.specs.Tables.{rowsOf, Tabled, Leaving, leaves, leavingOf, leavingBy, tallyOutcome, hopsBy, isPath as is-path, Tallied}
 use Rattle.walk.specs.declared.Walked.{Walked}
 use Rattle.walk.specs.declared.Walked.the-variants as walked
-use Rattle.path.specs.Words.{wordsNeeded, withPath, outputBy}
-use Rattle.path.specs.Work.{walkIn, Written}
-use Rattle.path.specs.Put.{walkOutcome, isPath, Sized, Put}
+use Rattle.path.specs.Words.{hopsWords, pathWords, wordsNeeded, withPath, outputBy}
+use Rattle.path.specs.Work.{walkIn, soFar, HopsPut}
+use Rattle.path.specs.Put.{walkOutcome, isPath, Sized, Put, WalkPut}
 use Rattle.path.specs.declared.WalkAnswer.{WalkAnswer}
 use Rattle.path.specs.declared.WalkAnswer.the-variants as answer
 use Rattle.walk.proofs.Leading.{there-below}
-use Rattle.walk.proofs.Laws.{walk-ends, hopped, sound, rule}
+use Rattle.walk.proofs.Laws.{walk-ends, ranked, hopped, sound, rule}
 use Rattle.path.proofs.Writing.{refused-as, length-path-words}
 
 -- ---- the start of a path
@@ -59,6 +61,41 @@ module _ (en ad ro ma : List ℕ) (s : Stand) (hs : List EntryRow) (e : walkFrom
           let v : value (some hs) ≡ refused 14 [] = sym e ∙ walk-ends (rowsOf en ad ro ma) s (w .0) ∙ ap (settled _) (w .1) in
           let z : _≡_ {A = ℕ} 0 1 = cc in
           omega arith)
+
+-- ---- the head word, after the hops
+
+module _ (en ad ro ma : List ℕ) (s : Stand) (name : ℕ) (out : List ℕ) where
+  -- no room for a head word
+  pub walk-no-room : length out < 1 → WalkPut en ad ro ma s name out 0 out
+  walk-no-room l = record { answers = λ z t hs e f. absurd (no-room hs f); writes = λ z t hs e f. absurd (no-room hs f); fits = omega arith; tail = refl; long = refl }
+    where
+      no-room : (hs : List EntryRow) → wordsNeeded name hs ≤ length out → ⊥
+      no-room hs f = omega (arith, length-path-words name hs)
+
+  -- a path has no more hops than there are entries
+  few : Sized en ro → (hs : List EntryRow) (e : walkFrom (rowsOf en ad ro ma) s ≡ value (some hs)) → hopped (rowsOf en ad ro ma) s hs e .count ≤ 4096
+  unfolding rowsOf rowsWith
+  few z hs e = omega (arith, ends-within (walkOn (rowsOf en ad ro ma)) (validEntries (rowsOf en ad ro ma)) (ranked (rowsOf en ad ro ma)) s (hopped (rowsOf en ad ro ma) s hs e .ends), length-map en entryWord, z .entries)
+
+  pub walk-put : (n w : ℕ) (mid : List ℕ) → (n < 65536 → w ≡ 9 * 268435456 + name * 65536 + n) → HopsPut en ad ro ma s out n mid → WalkPut en ad ro ma s name out (1 + 2 * n) (set mid 0 w)
+  unfolding soFar withPath wordsNeeded pathWords walkIn
+  walk-put n w mid head p = record {
+    answers = λ z t hs e f. let y = all z t hs e f in omega (arith, y .0, length-path-words name hs);
+    writes = λ z t hs e f.
+        let y = all z t hs e f in
+        ap (λ l. set l 0 w) (y .1)
+        ∙ ap (λ j. (j ∷ hopsWords hs) ++ drop (1 + 2 * length hs) out) (head (omega (arith, y .2)) ∙ ap (λ j. 9 * 268435456 + name * 65536 + j) (y .0))
+        ∙ ap (λ j. ((9 * 268435456 + name * 65536 + length hs) ∷ hopsWords hs) ++ drop j out) (sym (length-path-words name hs));
+    fits = p .fits;
+    tail = drop-set-lt (1 + 2 * n) mid 0 w (omega arith) ∙ p .tail;
+    long = length-set mid 0 w ∙ p .long;
+  }
+    where
+      all : Sized en ro → Tabled en ad ro → (hs : List EntryRow) → walkFrom (rowsOf en ad ro ma) s ≡ value (some hs) → wordsNeeded name hs ≤ length out → (n ≡ length hs) × (mid ≡ soFar (getD out 0 0) hs out) × (n ≤ 4096)
+      all z t hs e f =
+          let g = hopped (rowsOf en ad ro ma) s hs e in
+          let y = p .words z t (start-there en ad ro ma s hs e) (g .count) (g .ends) (omega (arith, g .long, length-path-words name hs)) in
+          (omega (arith, y .0, g .long), y .1 ∙ ap (λ l. soFar (getD out 0 0) l out) (ap (hopsN (walkOn (rowsOf en ad ro ma)) s) (y .0) ∙ g .hops), omega (arith, y .0, few z hs e))
 
 -- ---- the walk's outcome, by what its number of hops says
 
@@ -176,19 +213,19 @@ module _ (en ad ro ma : List ℕ) (s : Stand) (name : ℕ) (out : List ℕ) wher
           (λ l. absurd (no-path l))
           (λ x. absurd (x z))
 
-      pub put-whole : (out′ : List ℕ) → 1 + 2 * n ≤ length out → Written en ad ro ma s name n out out′ → Put en ad ro ma s name out (answer.Path n) out′
-      unfolding walkOutcome outputBy bind inRoom isPath walkIn
-      put-whole out′ k v = let few = hops-few en ad ro ma s r z f n q a h e in put-by _ out′
+      pub put-whole : (S : List ℕ) (i : ℕ) → 1 + 2 * n ≤ length out → length S ≡ length (take (1 + 2 * n) out) → WalkPut en ad ro ma s name (take (1 + 2 * n) out) i S → Put en ad ro ma s name out (answer.Path n) (S ++ drop (1 + 2 * n) out)
+      unfolding walkOutcome outputBy bind inRoom isPath withPath
+      put-whole S i k m v = let few = hops-few en ad ro ma s r z f n q a h e in put-by _ (S ++ drop (1 + 2 * n) out)
           (λ y t l.
           let w = hops-are t l in
-          let g = hopped (rowsOf en ad ro ma) s (w .0) (w .1) in
-          let m : g .count ≡ n = omega (arith, w .2, g .long) in
-          let b : ltb (length out) (wordsNeeded name (w .0)) ≡ false = le-ltb (length out) (wordsNeeded name (w .0)) (omega (arith, w .2, length-path-words name (w .0))) in
-          let p : out′ ≡ withPath name (hopsN (walkIn en ad ro ma) s n) out = v .words z t (start-there en ad ro ma s (w .0) (w .1)) (few .1) (λ j x. g .ends .hops j (omega arith)) in
-          by-outcome (answer.Path n) out′ (value (some (w .0))) (w .1) (ap (λ x. value (some x)) (w .2) ∙ ap (λ x. cond x (refused 2 (wordsNeeded name (w .0) ∷ [])) (value (some (length (w .0))))) (sym b))
-          (p ∙ ap (λ x. withPath name x out) (ap (hopsN (walkOn (rowsOf en ad ro ma)) s) (sym m) ∙ g .hops) ∙ ap (λ x. cond x out (withPath name (w .0) out)) (sym b)))
+          let j : 1 + 2 * n ≡ wordsNeeded name (w .0) = omega (arith, w .2, length-path-words name (w .0)) in
+          let b : ltb (length out) (wordsNeeded name (w .0)) ≡ false = le-ltb (length out) (wordsNeeded name (w .0)) (omega arith) in
+          let room : wordsNeeded name (w .0) ≤ length (take (1 + 2 * n) out) = omega (arith, length-take-le (1 + 2 * n) out k) in
+          let p : S ≡ pathWords name (w .0) = v .writes z t (w .0) (w .1) room ∙ ap (λ x. pathWords name (w .0) ++ x) (drop-of-length-le (take (1 + 2 * n) out) {i = wordsNeeded name (w .0)} (omega (arith, length-take-le (1 + 2 * n) out k))) ∙ append-nil (pathWords name (w .0)) in
+          by-outcome (answer.Path n) (S ++ drop (1 + 2 * n) out) (value (some (w .0))) (w .1) (ap (λ x. value (some x)) (w .2) ∙ ap (λ x. cond x (refused 2 (wordsNeeded name (w .0) ∷ [])) (value (some (length (w .0))))) (sym b))
+          (ap (λ x. x ++ drop (1 + 2 * n) out) p ∙ ap (λ x. pathWords name (w .0) ++ drop x out) j ∙ ap (λ x. cond x out (withPath name (w .0) out)) (sym b)))
           (λ l. absurd (no-path l))
           (λ x. absurd (x z))
           (λ p. absurd (true≢false p))
-          (λ j x. subst (λ i. (0 < i) × (1 + 2 * i ≤ length out) × (drop (1 + 2 * i) out′ ≡ drop (1 + 2 * i) out)) (let y : n ≡ j = cc in y) (few .0, k, v .tail))
-          (v .long)
+          (λ j x. subst (λ i. (0 < i) × (1 + 2 * i ≤ length out) × (drop (1 + 2 * i) (S ++ drop (1 + 2 * n) out) ≡ drop (1 + 2 * i) out)) (let y : n ≡ j = cc in y) (few .0, k, drop-at S (drop (1 + 2 * n) out) (1 + 2 * n) (m ∙ length-take-le (1 + 2 * n) out k)))
+          (length-front out S (1 + 2 * n) m)

@@ -1,14 +1,14 @@
 -- Laws for the loop that writes a path: the words so far, and where a hop leads. Assumes nothing.
-use Prim.Native.Nat.{ℕ, suc, _+_, _*_, _≤_, _<_}
+use Prim.Native.Nat.{ℕ, suc, _+_, _-_, _*_, _/_, _≤_, _<_}
 use mathlib.Core.Path.{_≡_, refl, sym, ap, _∙_, subst}
 use mathlib.Core.Logic.{⊎-elim}
-use mathlib.Core.Bool.{true, true≢false}
+use mathlib.Core.Bool.{true≢false}
 use mathlib.Core.List.{List, [], _∷_, _++_, append-assoc, append-nil}
 use mathlib.Core.Option.{some}
 use native.Mathlib.Omega.{arith}
 use native.Mathlib.Decide.{decLt}
 use lib.ListN.{length, getD, take, drop, set, length-append, length-drop, length-set}
-use lib.Seq.{take-at, drop-at, sets-eq, drop-drop, drop-cons, drop-set-lt, getD-set-same}
+use lib.Seq.{take-at, drop-at, sets-eq, drop-drop, drop-cons, drop-set-lt}
 use denote.Enum.Declared.{tagOf}
 use types.Run.{OneOf}
 use Rattle.refusal.specs.Outcome.{Outcome, refused, value, bind}
@@ -20,8 +20,8 @@ use Rattle.tables.specs.declared.EntryAt.the-variants as entry
 use Rattle.load.specs.Answers.{refusedBy}
 use Rattle.load.specs.declared.Refusal.{Refusal}
 use Rattle.load.proofs.Result.{refused-bind}
-use Rattle.orbit.specs.Walk.{Turn.ends as comes-to, going, walkN, hopsN, EndsAfter}
-use Rattle.orbit.proofs.Orbit.{Reached, reach-start, reach-on, reach-ends, reach-stops, reach-hops, length-hops}
+use Rattle.orbit.specs.Walk.{Turn.ends as comes-to, hopsN, EndsAfter}
+use Rattle.orbit.proofs.Orbit.{Reached, reach-start, reach-on, reach-ends, reach-stops, reach-hops, length-hops, ends-once}
 use Rattle.fabric.specs.Fabric.{leads}
 use Rattle.fabric.specs.Tables.{InOrder, LeadsTo, nextOutcome, rowsWith}
 use Rattle.fabric.specs.declared.Next.{Next}
@@ -30,9 +30,9 @@ use Rattle.fabric.proofs.Next as next-type
 use Rattle.walk.specs.Walking.{Stand, End, End.path, End.noPath, End.fault, walkOn, turnBy}
 use Rattle.walk.specs.Tables.{rowsOf, Tabled}
 use Rattle.walk.proofs.Leading.{there-below, leads-there, upstreams}
-use Rattle.path.specs.Words.{hopWords, hopsWords, pathWords, wordsNeeded, withPath}
+use Rattle.path.specs.Words.{hopWords, hopsWords, pathWords, wordsNeeded}
 use Rattle.path.specs.Put.{Sized}
-use Rattle.path.specs.Work.{walkIn, Written}
+use Rattle.path.specs.Work.{walkIn, soFar, HopsPut}
 
 -- ---- words
 
@@ -58,10 +58,6 @@ put-two front old out k u v f room e =
     ∙ ap (λ l. take k l ++ (u ∷ v ∷ []) ++ drop (k + 2) l) e
     ∙ ap (λ l. l ++ (u ∷ v ∷ []) ++ drop (k + 2) (front ++ drop k old)) (take-at front (drop k old) k f)
     ∙ ap (λ l. front ++ (u ∷ v ∷ []) ++ l) (sym (drop-drop 2 k (front ++ drop k old)) ∙ ap (drop 2) (drop-at front (drop k old) k f) ∙ drop-drop 2 k old)
-
--- a head word and hops, in the output as it was
-unfoldable pub soFar : ℕ → List EntryRow → List ℕ → List ℕ
-soFar w hs old = (w ∷ hopsWords hs) ++ drop (1 + 2 * length hs) old
 
 so-far-more : (w : ℕ) (hs : List EntryRow) (x : EntryRow) (old out : List ℕ) (i u v : ℕ) → length hs ≡ i → 1 + 2 * i + 2 ≤ length old → u ∷ v ∷ [] ≡ hopWords x → out ≡ soFar w hs old
     → set (set out (1 + 2 * i) u) (2 + 2 * i) v ≡ soFar w (hs ++ (x ∷ [])) old
@@ -97,137 +93,115 @@ stood p a h = record { place = p; adapter = a; hopId = h }
 abbrev row : ℕ → ℕ → ℕ → ℕ → ℕ → EntryRow
 row p a h o g = record { device = p; adapter = a; inHop = h; outAdapter = o; outHop = g }
 
--- what a caller sees to: tables as loading leaves them, a start that is there, and n hops to make
-pub record Makes (en ad ro ma : List ℕ) (s : Stand) (n : ℕ) : Type 0 where
+-- tables as loading leaves them, a start that is there, and a walk that ends after m hops, for which there is room
+pub record Makes (en ad ro ma : List ℕ) (s : Stand) (old : List ℕ) (m : ℕ) : Type 0 where
   pub sized : Sized en ro
   pub tabled : Tabled en ad ro
   pub there : s .place < length ro
-  pub goes : (k : ℕ) → k < n → going (walkN (walkIn en ad ro ma) s k) ≡ true
+  pub ends : EndsAfter (walkIn en ad ro ma) s m
+  pub room : 1 + 2 * m ≤ length old
 
 -- i hops are written, and the walk has come to y
-pub record Wrote (en ad ro ma : List ℕ) (s : Stand) (w : ℕ) (old : List ℕ) (i : ℕ) (y : Stand) (out : List ℕ) : Type 0 where
+pub record Wrote (en ad ro ma : List ℕ) (s : Stand) (old : List ℕ) (i : ℕ) (y : Stand) (out : List ℕ) : Type 0 where
   pub reached : Reached (walkIn en ad ro ma) s i y
   pub there : y .place < length ro
-  pub words : out ≡ soFar w (hopsN (walkIn en ad ro ma) s i) old
+  pub words : out ≡ soFar (getD old 0 0) (hopsN (walkIn en ad ro ma) s i) old
 
--- what the loop keeps, from the output with its head word: no word past the path is changed, whatever the tables
-pub record Kept (en ad ro ma : List ℕ) (s : Stand) (n : ℕ) (old : List ℕ) (i p a h : ℕ) (out : List ℕ) : Type 0 where
+-- what the loop keeps: no word past the hops so far is changed, whatever the tables
+pub record Kept (en ad ro ma : List ℕ) (s : Stand) (old : List ℕ) (i p a h : ℕ) (out : List ℕ) : Type 0 where
   pub hop-id : h < 65536
-  pub most : i ≤ n
-  pub room : 1 + 2 * n ≤ length old
+  pub room : 1 + 2 * i ≤ length old
   pub long : length out ≡ length old
-  pub tail : drop (1 + 2 * n) out ≡ drop (1 + 2 * n) old
-  pub wrote : Makes en ad ro ma s n → Wrote en ad ro ma s (getD old 0 0) old i (stood p a h) out
+  pub tail : drop (1 + 2 * i) out ≡ drop (1 + 2 * i) old
+  pub wrote : (m : ℕ) → Makes en ad ro ma s old m → Wrote en ad ro ma s old i (stood p a h) out
 
--- what it leaves
-pub record Done (en ad ro ma : List ℕ) (s : Stand) (n : ℕ) (old out : List ℕ) : Type 0 where
-  pub long : length out ≡ length old
-  pub tail : drop (1 + 2 * n) out ≡ drop (1 + 2 * n) old
-  pub words : Makes en ad ro ma s n → out ≡ soFar (getD old 0 0) (hopsN (walkIn en ad ro ma) s n) old
-
-pub kept-start : (en ad ro ma : List ℕ) (s : Stand) (n : ℕ) (old : List ℕ) (w : ℕ) → s .hopId < 65536 → 1 + 2 * n ≤ length old → Kept en ad ro ma s n (set old 0 w) 0 (s .place) (s .adapter) (s .hopId) (set old 0 w)
+pub kept-start : (en ad ro ma : List ℕ) (s : Stand) (old : List ℕ) → s .hopId < 65536 → 1 ≤ length old → Kept en ad ro ma s old 0 (s .place) (s .adapter) (s .hopId) old
 unfolding soFar hopsN hopsWords
-kept-start en ad ro ma s n old w l room = record {
+kept-start en ad ro ma s old l room = record {
   hop-id = l;
-  most = omega arith;
-  room = omega (arith, length-set old 0 w);
+  room = room;
   long = refl;
   tail = refl;
-  wrote = λ m. record { reached = reach-start (walkIn en ad ro ma) s; there = m .there; words = drop-cons (set old 0 w) 0 0 (omega (arith, length-set old 0 w)) };
-}
-
-pub kept-end : (en ad ro ma : List ℕ) (s : Stand) (n : ℕ) (old : List ℕ) (i p a h : ℕ) (out : List ℕ) → Kept en ad ro ma s n old i p a h out → n ≤ i → Done en ad ro ma s n old out
-kept-end en ad ro ma s n old i p a h out k l = record {
-  long = k .long;
-  tail = k .tail;
-  words = λ m. k .wrote m .words ∙ ap (λ j. soFar (getD old 0 0) (hopsN (walkIn en ad ro ma) s j) old) (let z : i ≡ n = omega (arith, k .most) in z);
+  wrote = λ m k. record { reached = reach-start (walkIn en ad ro ma) s; there = k .there; words = drop-cons old 0 0 (omega arith) };
 }
 
 in-order : {en ad ro : List ℕ} → Tabled en ad ro → InOrder ad ro
 in-order t = record { adapters = t .adapterOrder; devices = t .devices }
 
--- two words before the path's end
+-- two words after the hops so far
 two-long : (out : List ℕ) (i u v : ℕ) → length (set (set out (1 + 2 * i) u) (2 + 2 * i) v) ≡ length out
 two-long out i u v = length-set (set out (1 + 2 * i) u) (2 + 2 * i) v ∙ length-set out (1 + 2 * i) u
 
-two-tail : (n : ℕ) (out : List ℕ) (i u v : ℕ) → i < n → drop (1 + 2 * n) (set (set out (1 + 2 * i) u) (2 + 2 * i) v) ≡ drop (1 + 2 * n) out
-two-tail n out i u v l = drop-set-lt (1 + 2 * n) (set out (1 + 2 * i) u) (2 + 2 * i) v (omega arith) ∙ drop-set-lt (1 + 2 * n) out (1 + 2 * i) u (omega arith)
+two-tail : (out old : List ℕ) (i u v : ℕ) → drop (1 + 2 * i) out ≡ drop (1 + 2 * i) old → drop (1 + 2 * (i + 1)) (set (set out (1 + 2 * i) u) (2 + 2 * i) v) ≡ drop (1 + 2 * (i + 1)) old
+two-tail out old i u v e =
+    let k : 1 + 2 * (i + 1) ≡ 1 + 2 * i + 2 = omega arith in
+    drop-set-lt (1 + 2 * (i + 1)) (set out (1 + 2 * i) u) (2 + 2 * i) v (omega arith) ∙ drop-set-lt (1 + 2 * (i + 1)) out (1 + 2 * i) u (omega arith)
+    ∙ ap (λ j. drop j out) k ∙ sym (drop-drop 2 (1 + 2 * i) out) ∙ ap (drop 2) e ∙ drop-drop 2 (1 + 2 * i) old ∙ ap (λ j. drop j old) (sym k)
 
--- an entry is sought for the next hop
-module _ (en ad ro ma : List ℕ) (s : Stand) (n : ℕ) (old : List ℕ) (i p a h : ℕ) (out : List ℕ) (r : EntryAt) (k : Kept en ad ro ma s n old i p a h out) (more : i < n) (f : EntrySought en p a h r) where
-  found-hop : Makes en ad ro ma s n → walkIn en ad ro ma .hop (stood p a h) ≡ entryFound p a h r
-  unfolding walkIn walkOn rowsOf rowsWith
-  found-hop m = sym (f .first (omega (arith, k .wrote m .there, m .tabled .devices)) (m .tabled .entryOrder))
+module _ (en ad ro ma : List ℕ) (s : Stand) (old : List ℕ) where
+  -- a walk that ends here has made all its hops
+  done : (i : ℕ) (out : List ℕ) → 1 + 2 * i ≤ length old → length out ≡ length old → drop (1 + 2 * i) out ≡ drop (1 + 2 * i) old
+      → ((m : ℕ) → Makes en ad ro ma s old m → (i ≡ m) × (out ≡ soFar (getD old 0 0) (hopsN (walkIn en ad ro ma) s i) old)) → HopsPut en ad ro ma s old i out
+  done i out room long tail all = record { fits = room; long = long; tail = tail; words = λ z t l m e r. all m (record { sized = z; tabled = t; there = l; ends = e; room = r }) }
 
-  -- there is a hop to make
-  pub kept-missing : r ≡ entry.Missing → Done en ad ro ma s n old out
-  unfolding entryFound
-  kept-missing e = record {
-    long = k .long;
-    tail = k .tail;
-    words = λ m. absurd (true≢false (sym (m .goes i more) ∙ reach-stops (walkIn en ad ro ma) s (k .wrote m .reached) (found-hop m ∙ ap (entryFound p a h) e) .0 .over));
-  }
+  module _ (i p a h : ℕ) (out : List ℕ) (k : Kept en ad ro ma s old i p a h out) where
+    -- there is no more room: nor has the walk more hops
+    pub kept-full : (length old - 1) / 2 ≤ i → HopsPut en ad ro ma s old i out
+    kept-full l = done i out (k .room) (k .long) (k .tail) (λ m y. (whole m y (decLt m i), k .wrote m y .words))
+      where
+        whole : (m : ℕ) → Makes en ad ro ma s old m → Dec (m < i) → i ≡ m
+        whole m y (yes q) = absurd (true≢false (sym (k .wrote m y .reached .hops m q) ∙ y .ends .over))
+        whole m y (no q) = omega (arith, y .room)
 
-  module _ (o g u v : ℕ) (e : r ≡ entry.Entry o g) (first : p < 4096 → u ≡ 10 * 268435456 + p * 65536 + a * 256 + o) (second : v ≡ h * 65536 + g) where
-    abbrev out′ : List ℕ
-    out′ = set (set out (1 + 2 * i) u) (2 + 2 * i) v
+    -- an entry is sought for the next hop
+    module _ (more : i < (length old - 1) / 2) (r : EntryAt) (f : EntrySought en p a h r) where
+      found-hop : (m : ℕ) → Makes en ad ro ma s old m → walkIn en ad ro ma .hop (stood p a h) ≡ entryFound p a h r
+      unfolding walkIn walkOn rowsOf rowsWith
+      found-hop m y = sym (f .first (omega (arith, k .wrote m y .there, y .tabled .devices)) (y .tabled .entryOrder))
 
-    hop-here : Makes en ad ro ma s n → walkIn en ad ro ma .hop (stood p a h) ≡ some (row p a h o g)
-    unfolding entryFound
-    hop-here m = found-hop m ∙ ap (entryFound p a h) e
+      pub kept-missing : r ≡ entry.Missing → HopsPut en ad ro ma s old i out
+      unfolding entryFound
+      kept-missing e = done i out (k .room) (k .long) (k .tail)
+          (λ m y. (ends-once (walkIn en ad ro ma) s (reach-stops (walkIn en ad ro ma) s (k .wrote m y .reached) (found-hop m y ∙ ap (entryFound p a h) e) .0) (y .ends), k .wrote m y .words))
 
-    -- one more hop is written
-    hop-written : Makes en ad ro ma s n → out′ ≡ soFar (getD old 0 0) (hopsN (walkIn en ad ro ma) s (i + 1)) old
-    unfolding hopWords
-    hop-written m =
-        so-far-more (getD old 0 0) (hopsN (walkIn en ad ro ma) s i) (row p a h o g) old out i u v (length-hops (walkIn en ad ro ma) s i (k .wrote m .reached .hops)) (omega (arith, k .room))
-        (ap (λ z. z ∷ v ∷ []) (first (omega (arith, k .wrote m .there, m .sized .devices))) ∙ ap (λ z. (10 * 268435456 + p * 65536 + a * 256 + o) ∷ z ∷ []) second) (k .wrote m .words)
-        ∙ ap (λ l. soFar (getD old 0 0) l old) (sym (reach-hops (walkIn en ad ro ma) s (k .wrote m .reached) (hop-here m)))
+      module _ (o g u v : ℕ) (e : r ≡ entry.Entry o g) (first : p < 4096 → u ≡ 10 * 268435456 + p * 65536 + a * 256 + o) (second : v ≡ h * 65536 + g) where
+        abbrev out′ : List ℕ
+        out′ = set (set out (1 + 2 * i) u) (2 + 2 * i) v
 
-    module _ (t : Next) (l : LeadsTo ad ro ma (λ x. leads x p o) t) where
-      hop-turn : Makes en ad ro ma s n → walkIn en ad ro ma .next (stood p a h) (row p a h o g) ≡ turnBy (row p a h o g) (nextOutcome t)
-      unfolding walkIn walkOn rowsOf
-      hop-turn m = ap (turnBy _) (sym (l .leads-to (in-order (m .tabled)) _))
+        hop-here : (m : ℕ) → Makes en ad ro ma s old m → walkIn en ad ro ma .hop (stood p a h) ≡ some (row p a h o g)
+        unfolding entryFound
+        hop-here m y = found-hop m y ∙ ap (entryFound p a h) e
 
-      pub kept-on : (q b : ℕ) → g < 65536 → t ≡ next.On q b → Kept en ad ro ma s n old (i + 1) q b g out′
-      unfolding nextOutcome turnBy
-      kept-on q b y x = record {
-        hop-id = y;
-        most = omega arith;
-        room = k .room;
-        long = two-long out i u v ∙ k .long;
-        tail = two-tail n out i u v more ∙ k .tail;
-        wrote = λ m. record {
-          reached = reach-on (walkIn en ad ro ma) s (k .wrote m .reached) (hop-here m) (hop-turn m ∙ ap (λ z. turnBy (row p a h o g) (nextOutcome z)) x);
-          there = there-below (entriesIn en) ad ro ma q (leads-there (rowsWith (entriesIn en) ad ro ma) (upstreams (entriesIn en) ad ro ma) p o q b (sym (l .leads-to (in-order (m .tabled)) (entriesIn en)) ∙ ap nextOutcome x));
-          words = hop-written m;
-        };
-      }
+        -- one more hop is written
+        hop-written : (m : ℕ) → Makes en ad ro ma s old m → out′ ≡ soFar (getD old 0 0) (hopsN (walkIn en ad ro ma) s (i + 1)) old
+        unfolding hopWords
+        hop-written m y =
+            so-far-more (getD old 0 0) (hopsN (walkIn en ad ro ma) s i) (row p a h o g) old out i u v (length-hops (walkIn en ad ro ma) s i (k .wrote m y .reached .hops)) (omega arith)
+            (ap (λ z. z ∷ v ∷ []) (first (omega (arith, k .wrote m y .there, y .sized .devices))) ∙ ap (λ z. (10 * 268435456 + p * 65536 + a * 256 + o) ∷ z ∷ []) second) (k .wrote m y .words)
+            ∙ ap (λ l. soFar (getD old 0 0) l old) (sym (reach-hops (walkIn en ad ro ma) s (k .wrote m y .reached) (hop-here m y)))
 
-      -- where it leads nowhere further it is the last
-      pub kept-last : OneOf (1 ∷ 2 ∷ 3 ∷ []) (tagOf next-type.the-type t) → Done en ad ro ma s n old out′
-      kept-last y = record {
-        long = two-long out i u v ∙ k .long;
-        tail = two-tail n out i u v more ∙ k .tail;
-        words = λ m.
-            let x = ends-here (row p a h o g) t y in
-            hop-written m ∙ ap (λ j. soFar (getD old 0 0) (hopsN (walkIn en ad ro ma) s j) old) (all m (reach-ends (walkIn en ad ro ma) s (k .wrote m .reached) (hop-here m) (hop-turn m ∙ x .1) .0) (decLt (i + 1) n));
-      }
-        where
-          all : Makes en ad ro ma s n → EndsAfter (walkIn en ad ro ma) s (i + 1) → Dec (i + 1 < n) → i + 1 ≡ n
-          all m x (yes z) = absurd (true≢false (sym (m .goes (i + 1) z) ∙ x .over))
-          all m x (no z) = omega arith
+        module _ (t : Next) (l : LeadsTo ad ro ma (λ x. leads x p o) t) where
+          hop-turn : (m : ℕ) → Makes en ad ro ma s old m → walkIn en ad ro ma .next (stood p a h) (row p a h o g) ≡ turnBy (row p a h o g) (nextOutcome t)
+          unfolding walkIn walkOn rowsOf
+          hop-turn m y = ap (turnBy _) (sym (l .leads-to (in-order (y .tabled)) _))
 
--- all is written, where the head word was put first
-pub path-written : (en ad ro ma : List ℕ) (s : Stand) (name n w : ℕ) (old new : List ℕ) → 1 + 2 * n ≤ length old → (n < 65536 → w ≡ 9 * 268435456 + name * 65536 + n) → Done en ad ro ma s n (set old 0 w) new → Written en ad ro ma s name n old new
-unfolding soFar withPath wordsNeeded pathWords
-path-written en ad ro ma s name n w old new room head d = record {
-  long = d .long ∙ length-set old 0 w;
-  tail = d .tail ∙ drop-set-lt (1 + 2 * n) old 0 w (omega arith);
-  words = λ z t l f g.
-      let hs = hopsN (walkIn en ad ro ma) s n in
-      let k : length (hopsN (walkIn en ad ro ma) s n) ≡ n = length-hops (walkIn en ad ro ma) s n g in
-      d .words (record { sized = z; tabled = t; there = l; goes = g })
-      ∙ ap (λ z. (z ∷ hopsWords hs) ++ drop (1 + 2 * length hs) (set old 0 w)) (getD-set-same old 0 w 0 (omega arith) ∙ head (omega (arith, z .entries)) ∙ ap (λ j. 9 * 268435456 + name * 65536 + j) (sym k))
-      ∙ ap (λ l. ((9 * 268435456 + name * 65536 + length hs) ∷ hopsWords hs) ++ l) (drop-set-lt (1 + 2 * length hs) old 0 w (omega arith) ∙ ap (λ j. drop j old) (sym (length-path-words name hs)));
-}
+          pub kept-on : (q b : ℕ) → g < 65536 → t ≡ next.On q b → Kept en ad ro ma s old (i + 1) q b g out′
+          unfolding nextOutcome turnBy
+          kept-on q b w x = record {
+            hop-id = w;
+            room = omega arith;
+            long = two-long out i u v ∙ k .long;
+            tail = two-tail out old i u v (k .tail);
+            wrote = λ m y. record {
+              reached = reach-on (walkIn en ad ro ma) s (k .wrote m y .reached) (hop-here m y) (hop-turn m y ∙ ap (λ z. turnBy (row p a h o g) (nextOutcome z)) x);
+              there = there-below (entriesIn en) ad ro ma q (leads-there (rowsWith (entriesIn en) ad ro ma) (upstreams (entriesIn en) ad ro ma) p o q b (sym (l .leads-to (in-order (y .tabled)) (entriesIn en)) ∙ ap nextOutcome x));
+              words = hop-written m y;
+            };
+          }
+
+          -- where it leads nowhere further it is the last
+          pub kept-last : OneOf (1 ∷ 2 ∷ 3 ∷ []) (tagOf next-type.the-type t) → HopsPut en ad ro ma s old (i + 1) out′
+          kept-last w = done (i + 1) out′ (omega arith) (two-long out i u v ∙ k .long) (two-tail out old i u v (k .tail))
+              (λ m y.
+              let x = ends-here (row p a h o g) t w in
+              (ends-once (walkIn en ad ro ma) s (reach-ends (walkIn en ad ro ma) s (k .wrote m y .reached) (hop-here m y) (hop-turn m y ∙ x .1) .0) (y .ends), hop-written m y))

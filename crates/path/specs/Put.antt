@@ -6,7 +6,7 @@ use mathlib.Core.List.{List, [], _∷_}
 use mathlib.Core.Option.{Option, none, some}
 use lib.ListN.{length, drop}
 use Rattle.refusal.specs.Outcome.{Outcome, refused, value, bind}
-use Rattle.tables.specs.Rows.{DeviceRow}
+use Rattle.tables.specs.Rows.{EntryRow, DeviceRow}
 use Rattle.load.specs.Answers.{refusedBy, askedDevice}
 use Rattle.walk.specs.Walking.{Stand}
 use Rattle.walk.specs.Rule.{walkFrom, inRoom, WalkRule}
@@ -47,3 +47,11 @@ pub record Put (en ad ro ma : List ℕ) (s : Stand) (name : ℕ) (output : List 
   -- every start at a device that is there
   pub walks : Sized en ro → Tabled en ad ro → (d : DeviceRow) → askedDevice (rowsOf en ad ro ma) (s .place) ≡ value d
       → WalkRule (rowsOf en ad ro ma) s (wordsNeeded name) (length output) (λ hs. output′ ≡ withPath name hs output) (walkOutcome r)
+
+-- In tables in order, for a walk that has a path and where there is room for it, these are the path's words. Else what is written is free, but that no word past the answer is changed.
+pub record WalkPut (en ad ro ma : List ℕ) (s : Stand) (name : ℕ) (output : List ℕ) (r : ℕ) (output′ : List ℕ) : Type 0 where
+  pub answers : Sized en ro → Tabled en ad ro → (hs : List EntryRow) → walkFrom (rowsOf en ad ro ma) s ≡ value (some hs) → wordsNeeded name hs ≤ length output → r ≡ wordsNeeded name hs
+  pub writes : Sized en ro → Tabled en ad ro → (hs : List EntryRow) → walkFrom (rowsOf en ad ro ma) s ≡ value (some hs) → wordsNeeded name hs ≤ length output → output′ ≡ withPath name hs output
+  pub fits : r ≤ length output
+  pub tail : drop r output′ ≡ drop r output
+  pub long : length output′ ≡ length output

@@ -3,8 +3,8 @@ ghost use Prim.Native.Nat.{_+_, _*_, _≤_, _<_};
 ghost use mathlib.Core.Path.{_≡_};
 ghost use lib.ListN.{length};
 ghost use Rattle.walk.specs.Walking.{Stand};
-ghost use Rattle.path.specs.Put.{Put};
-ghost use Rattle.path.specs.Work.{Written};
+ghost use Rattle.path.specs.Put.{Put, WalkPut};
+ghost use Rattle.path.specs.Work.{HopsPut};
 use fabric::Next;
 use load::Refusal;
 use tables::EntryAt;
@@ -37,7 +37,7 @@ fn hop_word(place: usize, adapter: u8, out_adapter: u8) -> u32
     2684354560 + ((place % 4096) as u32) * 65536 + (adapter as u32) * 256 + out_adapter as u32
 }
 
-// Writes a path of `hops` hops from the output's first word on.
+// Writes the hops of a walk from the output's second word on, as far as there is room; how many.
 fn put_hops(
     entries: &[u64],
     adapters: &[u64],
@@ -46,25 +46,23 @@ fn put_hops(
     place: usize,
     adapter: u8,
     hop: u16,
-    name: u8,
-    hops: usize,
     output: &mut [u32],
-)
-    requires { ⌜ 1 + 2 * hops ≤ length (now output) ⌝ }
-    ensures { λ _. ⌜ Written (now (entries .entry)) (now (adapters .entry)) (now (routes .entry)) (now (marks .entry)) (record { place = place; adapter = adapter; hopId = hop }) name hops (now (output .entry)) (now (output .exit)) ⌝ }
+) -> usize
+    requires { ⌜ 1 ≤ length (now output) ⌝ }
+    ensures { λ r. ⌜ HopsPut (now (entries .entry)) (now (adapters .entry)) (now (routes .entry)) (now (marks .entry)) (record { place = place; adapter = adapter; hopId = hop }) (now (output .entry)) r (now (output .exit)) ⌝ }
 {
-    output[0] = path_word(name, hops);
+    let room = (output.len() - 1) / 2;
     let mut p = place;
     let mut a = adapter;
     let mut h = hop;
     let mut i: usize = 0;
-    while i < hops {
+    while i < room {
         let EntryAt::Entry {
             out_adapter,
             out_hop,
         } = search::find_entry(entries, p, a, h)
         else {
-            return;
+            return i;
         };
         output[1 + 2 * i] = hop_word(p, a, out_adapter);
         output[2 + 2 * i] = (h as u32) * 65536 + out_hop as u32;
@@ -74,12 +72,44 @@ fn put_hops(
             adapter: b,
         } = fabric::leads(adapters, routes, marks, p, out_adapter)
         else {
-            return;
+            return i;
         };
         p = q;
         a = b;
         h = out_hop;
     }
+    i
+}
+
+// Writes a walk's hops, as far as there is room, as a path with a name; how many words. For a walk that is known to have a path: whether there is one is not looked at.
+pub fn put_walk(
+    entries: &[u64],
+    adapters: &[u64],
+    routes: &[u64],
+    marks: &[u64],
+    place: usize,
+    adapter: u8,
+    hop: u16,
+    name: u8,
+    output: &mut [u32],
+) -> usize
+    ensures { λ r. ⌜ WalkPut (now (entries .entry)) (now (adapters .entry)) (now (routes .entry)) (now (marks .entry)) (record { place = place; adapter = adapter; hopId = hop }) name (now (output .entry)) r (now (output .exit)) ⌝ }
+{
+    if output.len() < 1 {
+        return 0;
+    }
+    let hops = put_hops(
+        entries,
+        adapters,
+        routes,
+        marks,
+        place,
+        adapter,
+        hop,
+        output,
+    );
+    output[0] = path_word(name, hops);
+    1 + 2 * hops
 }
 
 // Writes the path of the walk from an adapter and HopID of the device at a place, with a name; nothing where there is none, or too little room, or where the tables are larger than a survey's.
@@ -115,7 +145,7 @@ pub fn put_path(
             if output.len() < need {
                 return WalkAnswer::Short(need);
             }
-            put_hops(
+            put_walk(
                 entries,
                 adapters,
                 routes,
@@ -124,8 +154,7 @@ pub fn put_path(
                 adapter,
                 hop,
                 name,
-                hops,
-                output,
+                &mut output[..need],
             );
             WalkAnswer::Path(hops)
         }

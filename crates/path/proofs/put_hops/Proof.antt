@@ -5,24 +5,21 @@ use denote.Ref.{now}
 use native.Mathlib.Omega.{arith}
 use lib.ListN.{set, length-set}
 use borrow.Author.Needs.{needs}
-use Rattle.path.proofs.Writing.{Kept, stood, kept-start, kept-end, kept-missing, kept-on, kept-last, path-written}
+use Rattle.path.proofs.Writing.{Kept, stood, kept-start, kept-full, kept-missing, kept-on, kept-last}
 use Rattle.path.proofs.put_hops.Statement.{statement}
 use Rattle.path.proofs.put_hops.Tie as tie
 
 abbrev Inv-loop : tie.InvT-loop
-Inv-loop en ad ro ma place adapter hop name hops out₀ p₀ a₀ h₀ i₀ out p a h i = Kept en ad ro ma (stood place adapter hop) hops out₀ i p a h out
+Inv-loop en ad ro ma place adapter hop out₀ room p₀ a₀ h₀ i₀ out p a h i = Kept en ad ro ma (stood place adapter hop) out₀ i p a h out
 
 abbrev μ-loop : tie.MeasureT-loop
-μ-loop en ad ro ma place adapter hop name hops out₀ p₀ a₀ h₀ i₀ out p a h i = hops - i
+μ-loop en ad ro ma place adapter hop out₀ room p₀ a₀ h₀ i₀ out p a h i = room - i
 
-path-word-requires : tie.Need-path-word-requires Inv-loop μ-loop
-path-word-requires c κs = search needs
-
-slice-write-output : tie.Need-slice-write-output Inv-loop μ-loop
-slice-write-output c = search needs
+sub-room : tie.Need-sub-room Inv-loop μ-loop
+sub-room c = search needs
 
 loop-holds : tie.Need-loop-holds Inv-loop μ-loop
-loop-holds c = let e = c .before .before .before .before .before .before in kept-start _ _ _ _ (stood (e .args .place) (e .args .adapter) (e .args .hop)) _ (now (e .args .output)) (c .path-word .result) (omega (arith, e .fits)) (e .pre)
+loop-holds c = let e = c .before .before .before .before .before in kept-start _ _ _ _ (stood (e .args .place) (e .args .adapter) (e .args .hop)) _ (omega (arith, e .fits)) (e .pre)
 
 find-entry-requires : tie.Need-find-entry-requires Inv-loop μ-loop
 find-entry-requires c κs = search needs
@@ -34,14 +31,10 @@ enum-told : tie.Need-enum-told Inv-loop μ-loop
 enum-told c = search needs
 
 same-length : tie.Need-same-length Inv-loop μ-loop
-same-length c =
-    let l = c .before .before .before .before in
-    l .loop .inv .long ∙ length-set (now (l .before .before .before .before .before .before .before .args .output)) 0 (l .before .path-word .result)
+same-length c = c .before .before .before .before .loop .inv .long
 
 returns : tie.Need-returns Inv-loop μ-loop
-returns c =
-    let l = c .before .before .before .before in
-    path-written _ _ _ _ _ _ _ _ _ _ (l .before .before .before .before .before .before .before .pre) (l .before .path-word .ensures) (kept-missing _ _ _ _ _ _ _ _ _ _ _ _ _ (l .loop .inv) (c .before .before .before .loop-test .taken) (c .before .before .find-entry .ensures) (c .enum-told .given .1))
+returns c = let l = c .before .before .before .before in kept-missing _ _ _ _ _ _ _ _ _ _ _ (l .loop .inv) (c .before .before .before .loop-test .taken) _ (c .before .before .find-entry .ensures) (c .enum-told .given .1)
 
 hop-word-requires : tie.Need-hop-word-requires Inv-loop μ-loop
 hop-word-requires c κs = search needs
@@ -55,8 +48,8 @@ add-output c = search needs
 mul-output-2 : tie.Need-mul-output-2 Inv-loop μ-loop
 mul-output-2 c = search needs
 
-slice-write-output-2 : tie.Need-slice-write-output-2 Inv-loop μ-loop
-slice-write-output-2 c = let l = c .before .before .before .before .before .before in omega (arith, l .loop .inv .room, l .loop .inv .long, c .before .before .before .before .before .loop-test .taken)
+slice-write-output : tie.Need-slice-write-output Inv-loop μ-loop
+slice-write-output c = let l = c .before .before .before .before .before .before in omega (arith, l .loop .inv .long, c .before .before .before .before .before .loop-test .taken)
 
 cast-output : tie.Need-cast-output Inv-loop μ-loop
 cast-output c = omega (arith, c .before .before .before .before .before .before .loop .inv .hop-id)
@@ -79,8 +72,8 @@ add-output-3 c = search needs
 mul-output-5 : tie.Need-mul-output-5 Inv-loop μ-loop
 mul-output-5 c = search needs
 
-slice-write-output-3 : tie.Need-slice-write-output-3 Inv-loop μ-loop
-slice-write-output-3 c = let l = c .before .before .before .before .before .before in omega (arith, l .loop .inv .room, l .loop .inv .long, c .before .before .before .before .before .loop-test .taken, length-set (l .loop .output) (1 + 2 * l .loop .i) (c .hop-word .result))
+slice-write-output-2 : tie.Need-slice-write-output-2 Inv-loop μ-loop
+slice-write-output-2 c = let l = c .before .before .before .before .before .before in omega (arith, l .loop .inv .long, c .before .before .before .before .before .loop-test .taken, length-set (l .loop .output) (1 + 2 * l .loop .i) (c .hop-word .result))
 
 add-i : tie.Need-add-i Inv-loop μ-loop
 add-i c = search needs
@@ -94,14 +87,13 @@ enum-known-q c = search needs
 same-length-2 : tie.Need-same-length-2 Inv-loop μ-loop
 same-length-2 c =
     let l = c .before .before .before .before .before .before .before .before in
-    length-set (set (l .loop .output) (1 + 2 * l .loop .i) (c .before .before .hop-word .result)) (2 + 2 * l .loop .i) _ ∙ length-set (l .loop .output) (1 + 2 * l .loop .i) _ ∙ l .loop .inv .long ∙ length-set (now (l .before .before .before .before .before .before .before .args .output)) 0 (l .before .path-word .result)
+    length-set (set (l .loop .output) (1 + 2 * l .loop .i) (c .before .before .hop-word .result)) (2 + 2 * l .loop .i) _ ∙ length-set (l .loop .output) (1 + 2 * l .loop .i) _ ∙ l .loop .inv .long
 
 returns-2 : tie.Need-returns-2 Inv-loop μ-loop
 returns-2 c =
     let l = c .before .before .before .before .before .before .before .before in
     let v = c .before .before .before .before in
-    path-written _ _ _ _ _ _ _ _ _ _ (l .before .before .before .before .before .before .before .pre) (l .before .path-word .ensures)
-    (kept-last _ _ _ _ _ _ _ _ _ _ _ _ _ (l .loop .inv) (c .before .before .before .before .before .before .before .loop-test .taken) (c .before .before .before .before .before .before .find-entry .ensures) _ _ _ _ (v .out-adapter .given .1) (c .before .before .hop-word .ensures) refl _ (c .before .leads .ensures) (c .match2 .keys2))
+    kept-last _ _ _ _ _ _ _ _ _ _ _ (l .loop .inv) (c .before .before .before .before .before .before .before .loop-test .taken) _ (c .before .before .before .before .before .before .find-entry .ensures) _ _ _ _ (v .out-adapter .given .1) (c .before .before .hop-word .ensures) refl _ (c .before .leads .ensures) (c .match2 .keys2)
 
 loop-less : tie.Need-loop-less Inv-loop μ-loop
 loop-less c = search needs
@@ -110,15 +102,13 @@ loop-again : tie.Need-loop-again Inv-loop μ-loop
 loop-again c =
     let l = c .before .before .before .before .before .before .before .before .before .before in
     let v = c .before .before .before .before .before .before in
-    kept-on _ _ _ _ _ _ _ _ _ _ _ _ _ (l .loop .inv) (c .before .before .before .before .before .before .before .before .before .loop-test .taken) (c .before .before .before .before .before .before .before .before .find-entry .ensures) _ _ _ _ (v .out-adapter .given .1) (c .before .before .before .before .hop-word .ensures) refl _ (c .before .before .before .leads .ensures) _ _ (omega (arith, c .before .before .before .before .before .known-told .given)) (c .before .q .given .1)
+    kept-on _ _ _ _ _ _ _ _ _ _ _ (l .loop .inv) (c .before .before .before .before .before .before .before .before .before .loop-test .taken) _ (c .before .before .before .before .before .before .before .before .find-entry .ensures) _ _ _ _ (v .out-adapter .given .1) (c .before .before .before .before .hop-word .ensures) refl _ (c .before .before .before .leads .ensures) _ _ (omega (arith, c .before .before .before .before .before .known-told .given)) (c .before .q .given .1)
 
 same-length-3 : tie.Need-same-length-3 Inv-loop μ-loop
-same-length-3 c = let l = c .before in l .loop .inv .long ∙ length-set (now (l .before .before .before .before .before .before .before .args .output)) 0 (l .before .path-word .result)
+same-length-3 c = c .before .loop .inv .long
 
 returns-3 : tie.Need-returns-3 Inv-loop μ-loop
-returns-3 c =
-    let l = c .before in
-    path-written _ _ _ _ _ _ _ _ _ _ (l .before .before .before .before .before .before .before .pre) (l .before .path-word .ensures) (kept-end _ _ _ _ _ _ _ _ _ _ _ _ (l .loop .inv) (c .loop-test .left))
+returns-3 c = kept-full _ _ _ _ _ _ _ _ _ _ _ (c .before .loop .inv) (c .loop-test .left)
 
 pub put-hops-spec : {M : Type 1} → statement M
 put-hops-spec =
@@ -126,8 +116,7 @@ put-hops-spec =
     (tie.spec
     Inv-loop
     μ-loop
-    path-word-requires
-    slice-write-output
+    sub-room
     loop-holds
     find-entry-requires
     enum-known-out-adapter
@@ -138,7 +127,7 @@ put-hops-spec =
     mul-output
     add-output
     mul-output-2
-    slice-write-output-2
+    slice-write-output
     cast-output
     mul-output-3
     cast-output-2
@@ -146,7 +135,7 @@ put-hops-spec =
     mul-output-4
     add-output-3
     mul-output-5
-    slice-write-output-3
+    slice-write-output-2
     add-i
     leads-requires
     enum-known-q
