@@ -1,11 +1,13 @@
 -- Laws of the loops over rings: what is left to count or write gives the whole. Assumes nothing.
 use Prim.Native.Nat.{ℕ, suc, _+_, _-_, _*_, _≤_, _<_}
-use mathlib.Core.Path.{_≡_, refl, sym, ap, _∙_}
+use mathlib.Core.Path.{_≡_, refl, sym, ap, _∙_, subst}
+use mathlib.Core.Logic.{_⊎_, inl, inr, ⊎-elim}
 use mathlib.Core.List.{List, [], _∷_, _++_, append-assoc, append-nil, Option·toList}
 use mathlib.Core.Option.{Option, none, some}
 use native.Mathlib.Omega.{arith}
-use lib.ListN.{length, take, length-append}
-use lib.Seq.{length-take-le, take-all}
+use native.Mathlib.Decide.{decLt}
+use lib.ListN.{length, getD, take, set, replicate, length-append, length-replicate, getD-replicate, List·getD-eq-default}
+use lib.Seq.{length-take-le, take-all, getD-set-other}
 use Rattle.refusal.specs.Outcome.{Outcome, refused, value, bind}
 use Rattle.tables.specs.Rows.{Rows}
 use Rattle.load.specs.Answers.{refusedBy}
@@ -19,10 +21,10 @@ use Rattle.tunnel.specs.Words.{tunnelWords, tunnelsWords}
 use Rattle.tunnel.specs.Plans.{Plan, fromBy, planOf, planIf, plannedOutcome, wordsBy, Plans}
 use Rattle.tunnel.specs.declared.Planned.{Planned}
 use Rattle.tunnel.specs.declared.Planned.the-variants as planned
-use Rattle.discovery.specs.Work.{tallyOf, tallied, Tallies, RingsPut, Walks, PlanPut}
+use Rattle.discovery.specs.Work.{Wrote, tallyOf, tallied, Marked, Idle, Tallies, RingPut, RingsPut, PlanPut}
 use Rattle.discovery.specs.declared.Tally.the-variants as tally
 use Rattle.discovery.proofs.Walks.{one-dma-walks}
-use Rattle.discovery.proofs.Writing.{wrote-front}
+use Rattle.discovery.proofs.Writing.{wrote-nothing, wrote-front}
 
 -- ---- a plan, by what it is the plan of
 
@@ -90,6 +92,59 @@ rings-split x p a h k us e = go (oneDma x p a h) (rings x p a (suc h) k) e
     go (refused j vs) q f = absurd (let z : _≡_ {A = ℕ} 0 1 = cc in omega arith)
     go (value t) (refused j vs) f = absurd (let z : _≡_ {A = ℕ} 0 1 = cc in omega arith)
     go (value t) (value vs) f = (t, vs, refl, refl, cc)
+
+-- ---- rings that have no tunnel
+
+no-words : (t : Option Tunnel) → length (tunnelsWords (Option·toList t)) < 1 → t ≡ none
+unfolding tunnelsWords tunnelWords Option·toList
+no-words none l = refl
+no-words (some t) l = absurd (omega (arith, length-append (tunnelWords t) []))
+
+no-length : (l : List ℕ) → length l ≡ 0 → l ≡ []
+no-length [] e = refl
+no-length (x ∷ l) e = absurd (omega arith)
+
+pub not-marked : (ring words : ℕ) (idle : List ℕ) → Marked ring words idle idle
+not-marked ring words idle = record { marks = λ j e. inl e }
+
+pub marked : (ring words : ℕ) (idle : List ℕ) → words ≤ 0 → Marked ring words idle (set idle ring 1)
+marked ring words idle l = record { marks = λ j e. go j e (decLt j ring) (decLt ring j) }
+  where
+    go : (j : ℕ) → getD (set idle ring 1) j 0 ≡ 1 → Dec (j < ring) → Dec (ring < j) → (getD idle j 0 ≡ 1) ⊎ ((j ≡ ring) × (words < 1))
+    go j e (yes k) n = inl (sym (getD-set-other idle ring j 1 0 (λ q. omega arith)) ∙ e)
+    go j e (no k) (yes n) = inl (sym (getD-set-other idle ring j 1 0 (λ q. omega arith)) ∙ e)
+    go j e (no k) (no n) = inr (omega arith, omega arith)
+
+module _ (en ad ro ma : List ℕ) (p a : ℕ) where
+  -- none is marked
+  pub idle-start : (n : ℕ) → Idle en ad ro ma p a (replicate n 0)
+  idle-start n = record { rests = λ z t q j e. absurd (go j e (decLt j n)) }
+    where
+      go : (j : ℕ) → _≡_ {A = ℕ} (getD (replicate n 0) j 0) 1 → Dec (j < n) → ⊥
+      go j e (yes l) = omega (arith, getD-replicate {A = ℕ} n j 0 0 l)
+      go j e (no l) = omega (arith, List·getD-eq-default {A = ℕ} (replicate n 0) 0 {n = j} (omega (arith, length-replicate {A = ℕ} n 0)))
+
+  pub idle-marked : (idle idle′ : List ℕ) → Idle en ad ro ma p a idle → (ring : ℕ) (plan : Planned) → Plans en ad ro ma p (λ x. oneDma x p a ring) plan → (w : ℕ) → tallyOf plan ≡ tally.Words w → Marked ring w idle idle′ → Idle en ad ro ma p a idle′
+  idle-marked idle idle′ i ring plan f w e m = record { rests = λ z t q j g. ⊎-elim (i .rests z t q j) (λ h. subst (λ k. oneDma (rowsOf en ad ro ma) p a k ≡ value none) (sym (h .0)) (here z t q (h .1))) (m .marks j g) }
+    where
+      here : Sized en ro → Tabled en ad ro → p < 65536 → w < 1 → oneDma (rowsOf en ad ro ma) p a ring ≡ value none
+      here z t q l = let y = plan-words plan (oneDma (rowsOf en ad ro ma) p a ring) (f .answers z t q) w e in y .1 ∙ ap value (no-words (y .0) (omega (arith, y .2)))
+
+  pub ring-idle : (idle : List ℕ) → Idle en ad ro ma p a idle → (ring : ℕ) → getD idle ring 0 ≡ 1 → (at : ℕ) (out : List ℕ) → at ≤ length out → RingPut en ad ro ma p a ring at out at out
+  unfolding tunnelsWords Option·toList
+  ring-idle idle i ring e at out l = record {
+    within = l;
+    long = refl;
+    words = λ z t q o g room. let y = sym (i .rests z t q ring e) ∙ g in let v : none ≡ o = cc in subst (λ k. Wrote at (tunnelsWords (Option·toList k)) out at out) v (wrote-nothing at out);
+  }
+
+  pub ring-put : (ring : ℕ) (plan : Planned) → Plans en ad ro ma p (λ x. oneDma x p a ring) plan → (at : ℕ) (out : List ℕ) (r : ℕ) (out′ : List ℕ) → PlanPut en ad ro ma plan at out r out′ → RingPut en ad ro ma p a ring at out r out′
+  unfolding bind
+  ring-put ring plan f at out r out′ w = record {
+    within = w .within;
+    long = w .long;
+    words = λ z t q o e room. w .words z t o (f .answers z t q ∙ ap (λ y. bind y (λ t. value (planIf t))) e) (one-dma-walks (rowsOf en ad ro ma) p a ring o e) room;
+  }
 
 -- ---- the tally
 
@@ -164,9 +219,19 @@ module _ (en ad ro ma : List ℕ) (p a end : ℕ) where
           sym (take-all at out (omega (arith, n, c .long, ap length whole, length-take-le at out (c .within)))) ∙ whole;
     }
 
+    -- no words are left
+    pub putting-full : length out ≤ at → RingsPut en ad ro ma p a (end - 1) out₀ out
+    putting-full l = record {
+      long = c .long;
+      words = λ z t q ts e n.
+          let y = c .rest z t q ts e n in
+          let whole : out ++ tunnelsWords (y .0) ≡ tunnelsWords ts = ap (λ k. k ++ tunnelsWords (y .0)) (sym (take-all at out l)) ∙ y .2 in
+          sym (append-nil out) ∙ ap (λ k. out ++ k) (sym (no-length (tunnelsWords (y .0)) (omega (arith, n, c .long, ap length whole, length-append out (tunnelsWords (y .0)))))) ∙ whole;
+    }
+
     -- the words of the next ring are put before those that are left
-    module _ (r : ℕ) (out′ : List ℕ) (plan : Planned) (w : PlanPut en ad ro ma plan at out r out′) (z : Sized en ro) (l : Tabled en ad ro) (ts us vs : List Tunnel) (t : Option Tunnel) (n : length out₀ ≡ length (tunnelsWords ts))
-        (whole : take at out ++ tunnelsWords us ≡ tunnelsWords ts) (e : us ≡ Option·toList t ++ vs) (said : plannedOutcome plan ≡ value (planIf t)) (walks : Walks (rowsOf en ad ro ma) t) where
+    module _ (r : ℕ) (out′ : List ℕ) (w : RingPut en ad ro ma p a ring at out r out′) (z : Sized en ro) (l : Tabled en ad ro) (q : p < 65536) (ts us vs : List Tunnel) (t : Option Tunnel) (n : length out₀ ≡ length (tunnelsWords ts))
+        (whole : take at out ++ tunnelsWords us ≡ tunnelsWords ts) (e : us ≡ Option·toList t ++ vs) (d : oneDma (rowsOf en ad ro ma) p a ring ≡ value t) where
       split : tunnelsWords us ≡ tunnelsWords (Option·toList t) ++ tunnelsWords vs
       split = ap tunnelsWords e ∙ tunnels-append (Option·toList t) vs
 
@@ -175,12 +240,11 @@ module _ (en ad ro ma : List ℕ) (p a end : ℕ) where
 
       put-next : take r out′ ++ tunnelsWords vs ≡ tunnelsWords ts
       put-next =
-          ap (λ l. l ++ tunnelsWords vs) (wrote-front at (tunnelsWords (Option·toList t)) out r out′ room (w .words z l t said walks room))
+          ap (λ l. l ++ tunnelsWords vs) (wrote-front at (tunnelsWords (Option·toList t)) out r out′ room (w .words z l q t d room))
           ∙ append-assoc (take at out) (tunnelsWords (Option·toList t)) (tunnelsWords vs) ∙ ap (λ l. take at out ++ l) (sym split) ∙ whole
 
-    pub putting-on : ring < end → (plan : Planned) → Plans en ad ro ma p (λ x. oneDma x p a ring) plan → (r : ℕ) (out′ : List ℕ) → PlanPut en ad ro ma plan at out r out′ → Putting out₀ r (ring + 1) out′
-    unfolding bind
-    putting-on more plan f r out′ w = record {
+    pub putting-on : ring < end → (r : ℕ) (out′ : List ℕ) → RingPut en ad ro ma p a ring at out r out′ → Putting out₀ r (ring + 1) out′
+    putting-on more r out′ w = record {
       from = omega arith;
       to = omega arith;
       within = omega (arith, w .within, w .long);
@@ -197,5 +261,5 @@ module _ (en ad ro ma : List ℕ) (p a end : ℕ) where
             next (t, vs, d, g, h) = (
               vs,
               ap (λ k. rings (rowsOf en ad ro ma) p a k (end - (ring + 1))) (let v : ring + 1 ≡ suc ring = omega arith in v) ∙ g,
-              put-next r out′ plan w z l ts us vs t n whole h (f .answers z l q ∙ ap (λ o. bind o (λ t. value (planIf t))) d) (one-dma-walks (rowsOf en ad ro ma) p a ring t d),
+              put-next r out′ w z l q ts us vs t n whole h d,
             )

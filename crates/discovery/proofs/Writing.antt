@@ -2,33 +2,25 @@
 use Prim.Native.Nat.{ℕ, suc, _+_, _-_, _*_, _≤_, _<_}
 use mathlib.Core.Path.{_≡_, refl, sym, ap, _∙_, subst}
 use mathlib.Core.Logic.{_⊎_, ⊎-elim}
-use mathlib.Core.Bool.{Bool, true, false, cond, true≢false}
+use mathlib.Core.Bool.{Bool, true, false, cond}
 use mathlib.Core.List.{List, [], _∷_, _++_, map, append-assoc, append-nil, Option·toList}
 use mathlib.Core.Option.{Option, none, some}
 use native.Mathlib.Omega.{arith}
 use denote.Enum.Declared.{tagOf}
 use types.Run.{OneOf}
-use lib.Dec.{ltb}
 use lib.ListN.{length, take, drop, set, length-map, length-append, length-drop, length-set, take-append-drop, drop-of-length-le}
 use lib.Seq.{length-take-le, take-all, take-at, drop-at, drop-drop, set-split}
-use borrow.Author.Tests.{le-ltb}
 use borrow.Rule.Slice.PartMut.{putMid}
-use Rattle.refusal.specs.Outcome.{refused, value, bind}
+use Rattle.refusal.specs.Outcome.{value}
 use Rattle.usb4.specs.Numbers.{tunnelNumber}
 use Rattle.usb4.specs.declared.TunnelType.{TunnelType}
 use Rattle.usb4.specs.declared.TunnelType.the-variants as tunnelType
-use Rattle.tables.specs.Rows.{EntryRow}
 use Rattle.walk.specs.Walking.{Stand}
-use Rattle.walk.specs.Rule.{walkFrom, inRoom}
 use Rattle.walk.specs.Tables.{rowsOf, Tabled}
-use Rattle.path.specs.Words.{pathWords, wordsNeeded, withPath, outputBy}
-use Rattle.path.specs.Put.{Sized, Put, isPath, walkOutcome}
-use Rattle.path.specs.declared.WalkAnswer.{WalkAnswer}
-use Rattle.path.specs.declared.WalkAnswer.the-variants as walk-answer
-use Rattle.path.proofs.WalkAnswer as walk-type
+use Rattle.path.specs.Words.{pathWords, wordsNeeded, withPath}
+use Rattle.path.specs.Put.{Sized, WalkPut}
 use Rattle.tunnel.proofs.Planned as planned-type
-use Rattle.path.proofs.Writing.{length-path-words, refused-as}
-use Rattle.path.proofs.Answering.{start-there}
+use Rattle.path.proofs.Writing.{refused-as}
 use Rattle.tunnel.specs.Tunnels.{Path, Tunnel}
 use Rattle.tunnel.specs.Words.{closed, pathsWords, tunnelWord, tunnelWords, tunnelsWords}
 use Rattle.tunnel.specs.Plans.{From, Plan, fromOf, fromBy, planOf, planIf, plannedOutcome, pathsBy}
@@ -39,7 +31,7 @@ use Rattle.discovery.specs.Work.{Wrote, PathPut, AllWalk, Walks, PlanPut
 
 -- ---- words put one after another
 
-wrote-nothing : (at : ℕ) (out : List ℕ) → Wrote at [] out at out
+pub wrote-nothing : (at : ℕ) (out : List ℕ) → Wrote at [] out at out
 wrote-nothing at out = record { next = omega arith; whole = sym (ap (λ l. l ++ drop at out) (append-nil (take at out)) ∙ take-append-drop at out) }
 
 module _ (at : ℕ) (ws out : List ℕ) (r : ℕ) (mid : List ℕ) (room : at + length ws ≤ length out) (w : Wrote at ws out r mid) where
@@ -77,68 +69,31 @@ part-is out at = take-all (length out - at) (drop at out) (omega (arith, length-
 put-back : (out S : List ℕ) (at : ℕ) → putMid at (length out - at) out S ≡ take at out ++ S
 put-back out S at = ap (λ l. take at out ++ (S ++ l)) (drop-of-length-le (drop at out) {i = length out - at} (omega (arith, length-drop at out))) ∙ ap (λ l. take at out ++ l) (append-nil S)
 
-path-answered : (a : WalkAnswer) (n : ℕ) → walkOutcome a ≡ value (some n) → isPath a ≡ false → ⊥
-unfolding walkOutcome isPath
-path-answered (walk-answer.Path m) n e f = true≢false f
-path-answered walk-answer.Absent n e f = let z : _≡_ {A = ℕ} 0 1 = cc in omega arith
-path-answered (walk-answer.Short m) n e f = let z : _≡_ {A = ℕ} 0 1 = cc in omega arith
-path-answered (walk-answer.Refused r) n e f = let w = refused-as (value (some n)) r e in let v = w .2 in let z : _≡_ {A = ℕ} 0 1 = cc in omega arith
-
--- what isn't a path
-pub not-path : (a : WalkAnswer) → OneOf (1 ∷ 2 ∷ 3 ∷ []) (tagOf walk-type.the-type a) → isPath a ≡ false
-unfolding isPath
-not-path (walk-answer.Path n) k = absurd (⊎-elim (λ y. omega arith) (⊎-elim (λ y. omega arith) (λ y. omega arith)) k)
-not-path walk-answer.Absent k = refl
-not-path (walk-answer.Short w) k = refl
-not-path (walk-answer.Refused r) k = refl
-
-module _ (en ad ro ma out S : List ℕ) (s : Stand) (name at : ℕ) (a : WalkAnswer) (room : at ≤ length out) (p : Put en ad ro ma s name (take (length out - at) (drop at out)) a S) where
+module _ (en ad ro ma out S : List ℕ) (s : Stand) (name at r : ℕ) (room : at ≤ length out) (p : WalkPut en ad ro ma s name (take (length out - at) (drop at out)) r S) where
   part-long : length (take (length out - at) (drop at out)) ≡ length out - at
   part-long = ap length (part-is out at) ∙ length-drop at out
 
   all-long : length (putMid at (length out - at) out S) ≡ length out
   all-long = ap length (put-back out S at) ∙ length-append (take at out) S ∙ omega (arith, length-take-le at out room, p .long, part-long)
 
-  -- where there is a path and room it is answered and written
-  module _ (z : Sized en ro) (t : Tabled en ad ro) (hs : List EntryRow) (e : walkFrom (rowsOf en ad ro ma) s ≡ value (some hs)) (fits : at + length (pathWords name hs) ≤ length out) where
-    near : s .place < 65536
-    near = omega (arith, start-there en ad ro ma s hs e, z .devices)
+  pub path-fits : at + r ≤ length out
+  path-fits = omega (arith, p .fits, part-long)
 
-    fits-part : ltb (length (take (length out - at) (drop at out))) (wordsNeeded name hs) ≡ false
-    unfolding wordsNeeded
-    fits-part = le-ltb (length (take (length out - at) (drop at out))) (wordsNeeded name hs) (omega (arith, part-long))
-
-    answered : walkOutcome a ≡ value (some (length hs))
-    unfolding bind inRoom
-    answered = p .answers z t near ∙ ap (λ y. bind y (inRoom (wordsNeeded name) (length (take (length out - at) (drop at out))))) e ∙ ap (λ b. cond b (refused 2 (wordsNeeded name hs ∷ [])) (value (some (length hs)))) fits-part
-
-    written : S ≡ pathWords name hs ++ drop (wordsNeeded name hs) (drop at out)
-    unfolding outputBy withPath
-    written = p .writes z t near ∙ ap (λ y. outputBy name y (take (length out - at) (drop at out))) e ∙ ap (λ b. cond b (take (length out - at) (drop at out)) (withPath name hs (take (length out - at) (drop at out)))) fits-part ∙ ap (λ l. pathWords name hs ++ drop (wordsNeeded name hs) l) (part-is out at)
-
-  pub path-not-put : isPath a ≡ false → PathPut en ad ro ma (record { stand = s; name = name }) at out at (putMid at (length out - at) out S)
-  path-not-put b = record {
-    within = room;
-    long = all-long;
-    words = λ z t hs e fits. absurd (path-answered a (length hs) (answered z t hs e fits) b);
-  }
-
-  pub path-fits : (n : ℕ) → a ≡ walk-answer.Path n → at + (1 + 2 * n) ≤ length out
-  path-fits n e = omega (arith, p .fits n e .1, part-long)
-
-  pub path-put : (n : ℕ) → a ≡ walk-answer.Path n → PathPut en ad ro ma (record { stand = s; name = name }) at out (at + (1 + 2 * n)) (putMid at (length out - at) out S)
-  unfolding walkOutcome wordsNeeded
-  path-put n q = record {
-    within = path-fits n q;
+  pub path-put : PathPut en ad ro ma (record { stand = s; name = name }) at out (at + r) (putMid at (length out - at) out S)
+  unfolding wordsNeeded withPath
+  path-put = record {
+    within = path-fits;
     long = all-long;
     words = λ z t hs e fits.
-        let k : n ≡ length hs = let y = sym (ap walkOutcome q) ∙ answered z t hs e fits in cc in
-        let m : at + (1 + 2 * n) ≡ at + length (pathWords name hs) = omega (arith, length-path-words name hs, k) in
+        let f : wordsNeeded name hs ≤ length (take (length out - at) (drop at out)) = omega (arith, part-long) in
+        let k : r ≡ length (pathWords name hs) = p .answers z t hs e f in
         record {
-          next = m;
+          next = ap (λ j. at + j) k;
           whole =
-              put-back out S at ∙ ap (λ l. take at out ++ l) (written z t hs e fits) ∙ sym (append-assoc (take at out) (pathWords name hs) _)
-              ∙ ap (λ l. (take at out ++ pathWords name hs) ++ l) (drop-drop (length (pathWords name hs)) at out ∙ ap (λ j. drop j out) (sym m));
+              put-back out S at
+              ∙ ap (λ l. take at out ++ l) (p .writes z t hs e f ∙ ap (λ l. pathWords name hs ++ drop (length (pathWords name hs)) l) (part-is out at))
+              ∙ sym (append-assoc (take at out) (pathWords name hs) _)
+              ∙ ap (λ l. (take at out ++ pathWords name hs) ++ l) (drop-drop (length (pathWords name hs)) at out ∙ ap (λ j. drop (at + j) out) (sym k));
         };
   }
 

@@ -1,11 +1,12 @@
 -- For the contracts of private functions only. No promise to a caller rests on these. Assumes nothing.
 use Prim.Native.Nat.{ℕ, _+_, _≤_, _<_}
 use mathlib.Core.Path.{_≡_}
+use mathlib.Core.Logic.{_⊎_}
 use mathlib.Core.Bool.{false, cond}
 use mathlib.Core.List.{List, [], _∷_, _++_, Option·toList}
 use mathlib.Core.Option.{Option, none, some}
 use lib.Dec.{ltb, eqb}
-use lib.ListN.{length, take, drop}
+use lib.ListN.{length, getD, take, drop}
 use Rattle.refusal.specs.Outcome.{Outcome, value, bind}
 use Rattle.usb4.specs.declared.TunnelType.the-variants as tunnelType
 use Rattle.tables.specs.Rows.{EntryRow, Rows}
@@ -14,7 +15,7 @@ use Rattle.walk.specs.Rule.{walkFrom}
 use Rattle.walk.specs.Tables.{rowsOf, Tabled}
 use Rattle.path.specs.Words.{pathWords}
 use Rattle.path.specs.Put.{Sized}
-use Rattle.tunnel.specs.Tunnels.{Path, Tunnel, downAndUp, displayPort, rings, orNone, alone}
+use Rattle.tunnel.specs.Tunnels.{Path, Tunnel, downAndUp, displayPort, oneDma, rings, orNone, alone}
 use Rattle.tunnel.specs.Words.{tunnelsWords}
 use Rattle.tunnel.specs.Plans.{From, startOf, planIf, plannedOutcome}
 use Rattle.tunnel.specs.declared.Planned.{Planned}
@@ -65,9 +66,24 @@ tallied (tally.Refused r) = refusedBy r
 unfoldable pub ringsEnd : ℕ → ℕ
 ringsEnd most = cond (ltb 65535 most) 65536 (most + 1)
 
+-- a ring is marked, if it needs no words, and no other
+pub record Marked (ring words : ℕ) (old new : List ℕ) : Type 0 where
+  pub marks : (j : ℕ) → getD new j 0 ≡ 1 → (getD old j 0 ≡ 1) ⊎ ((j ≡ ring) × (words < 1))
+
+-- a ring that is marked has no tunnel
+pub record Idle (en ad ro ma : List ℕ) (p a : ℕ) (idle : List ℕ) : Type 0 where
+  pub rests : Sized en ro → Tabled en ad ro → p < 65536 → (j : ℕ) → getD idle j 0 ≡ 1 → oneDma (rowsOf en ad ro ma) p a j ≡ value none
+
 -- the words of the tunnels of k rings from 1 on
 pub record Tallies (en ad ro ma : List ℕ) (p a k : ℕ) (r : Tally) : Type 0 where
   pub counts : Sized en ro → Tabled en ad ro → p < 65536 → tallied r ≡ bind (rings (rowsOf en ad ro ma) p a 1 k) (λ ts. value (length (tunnelsWords ts)))
+
+-- the tunnel of a ring, if it has one
+pub record RingPut (en ad ro ma : List ℕ) (p a ring at : ℕ) (out : List ℕ) (r : ℕ) (out′ : List ℕ) : Type 0 where
+  pub within : r ≤ length out
+  pub long : length out′ ≡ length out
+  pub words : Sized en ro → Tabled en ad ro → p < 65536 → (o : Option Tunnel) → oneDma (rowsOf en ad ro ma) p a ring ≡ value o → at + length (tunnelsWords (Option·toList o)) ≤ length out
+      → Wrote at (tunnelsWords (Option·toList o)) out r out′
 
 -- an output as long as these words
 pub record RingsPut (en ad ro ma : List ℕ) (p a k : ℕ) (out out′ : List ℕ) : Type 0 where

@@ -1,18 +1,17 @@
 // Discovery (module 7, `Tunnel::discover`) on the tables that a survey is loaded to: a tally first, then the words.
 ghost use Prim.Native.Nat.{_+_, _*_, _-_, _≤_, _<_};
 ghost use mathlib.Core.Path.{_≡_};
-ghost use mathlib.Core.Bool.{cond};
-ghost use lib.ListN.{length};
+ghost use mathlib.Core.Bool.{true, cond};
+ghost use lib.ListN.{length, getD};
 ghost use Rattle.usb4.specs.Numbers.{tunnelNumber};
 ghost use Rattle.adapter.specs.Adapter.{factsRow, adapterSite, maxHopOutcome};
 ghost use Rattle.tunnel.specs.Tunnels.{discover};
 ghost use Rattle.tunnel.specs.Plans.{Plans, fromBy, pathsBy};
 ghost use Rattle.discovery.specs.Tables.{Discovered};
-ghost use Rattle.discovery.specs.Work.{PathPut, PlanPut, Tallies, RingsPut, OneAnswered, Answered, dmaBy, tunnelBy, tallyOf, ringsEnd};
+ghost use Rattle.discovery.specs.Work.{PathPut, PlanPut, Marked, Idle, Tallies, RingPut, RingsPut, OneAnswered, Answered, dmaBy, tunnelBy, tallyOf, ringsEnd};
 use adapter::Facts;
 use adapter::MaxHop;
 use load::Refusal;
-use path::WalkAnswer;
 use refusal::Fault;
 use refusal::Site;
 use tables::AdapterFound;
@@ -64,7 +63,7 @@ fn put_start(
     requires { ⌜ at ≤ length (now output) ⌝ }
     ensures { λ r. ⌜ PathPut (now (entries .entry)) (now (adapters .entry)) (now (routes .entry)) (now (marks .entry)) (fromBy start) at (now (output .entry)) r (now (output .exit)) ⌝ }
 {
-    let WalkAnswer::Path(hops) = path::put_path(
+    let words = path::put_walk(
         entries,
         adapters,
         routes,
@@ -74,10 +73,8 @@ fn put_start(
         start.hop,
         start.name,
         &mut output[at..],
-    ) else {
-        return at;
-    };
-    at + (1 + 2 * hops)
+    );
+    at + words
 }
 
 // Writes a planned tunnel from a place of the output on; the place after it.
@@ -152,7 +149,20 @@ fn rings_end(most: u32) -> u32
     most + 1
 }
 
-// The words of the tunnels of rings 1 to `end`, which is left out.
+// Marks a ring that needs no words.
+fn mark(idle: &mut [u8; 64], ring: u32, words: usize)
+    ensures { λ _. ⌜ Marked ring words (now (idle .entry)) (now (idle .exit)) ⌝ }
+{
+    if 0 < words {
+        return;
+    }
+    if 63 < ring {
+        return;
+    }
+    idle[ring as usize] = 1;
+}
+
+// The words of the tunnels of rings 1 to `end`, which is left out; the rings that have none are marked.
 fn tally_rings(
     entries: &[u64],
     adapters: &[u64],
@@ -161,9 +171,10 @@ fn tally_rings(
     place: usize,
     adapter: u8,
     end: u32,
+    idle: &mut [u8; 64],
 ) -> Tally
-    requires { ⌜ (1 ≤ end) × (end ≤ 65536) ⌝ }
-    ensures { λ r. ⌜ Tallies (now (entries .entry)) (now (adapters .entry)) (now (routes .entry)) (now (marks .entry)) place adapter (end - 1) r ⌝ }
+    requires { ⌜ (1 ≤ end) × (end ≤ 65536) × Idle (now entries) (now adapters) (now routes) (now marks) place adapter (now idle) ⌝ }
+    ensures { λ r. ⌜ Tallies (now (entries .entry)) (now (adapters .entry)) (now (routes .entry)) (now (marks .entry)) place adapter (end - 1) r × Idle (now (entries .entry)) (now (adapters .entry)) (now (routes .entry)) (now (marks .entry)) place adapter (now (idle .exit)) ⌝ }
 {
     let mut need: usize = 0;
     let mut ring: u32 = 1;
@@ -183,6 +194,7 @@ fn tally_rings(
             }
             Tally::Words(words) => {
                 need += words;
+                mark(idle, ring, words);
             }
         }
         ring += 1;
@@ -190,7 +202,48 @@ fn tally_rings(
     Tally::Words(need)
 }
 
-// Writes the tunnels of rings 1 to `end`, which is left out.
+// Whether a ring is marked.
+fn is_idle(idle: &[u8; 64], ring: u32) -> bool
+    ensures { λ r. ⌜ (r ≡ true → getD (now (idle .entry)) ring 0 ≡ 1) ⌝ }
+{
+    if ring < 64 {
+        return idle[ring as usize] == 1;
+    }
+    false
+}
+
+// Writes the tunnel of a ring from a place of the output on, unless the ring is marked; the place after it.
+fn put_ring(
+    entries: &[u64],
+    adapters: &[u64],
+    routes: &[u64],
+    marks: &[u64],
+    place: usize,
+    adapter: u8,
+    ring: u32,
+    idle: &[u8; 64],
+    output: &mut [u32],
+    at: usize,
+) -> usize
+    requires { ⌜ (ring < 65536) × (at ≤ length (now output)) × Idle (now entries) (now adapters) (now routes) (now marks) place adapter (now idle) ⌝ }
+    ensures { λ r. ⌜ RingPut (now (entries .entry)) (now (adapters .entry)) (now (routes .entry)) (now (marks .entry)) place adapter ring at (now (output .entry)) r (now (output .exit)) ⌝ }
+{
+    if is_idle(idle, ring) {
+        return at;
+    }
+    let plan = tunnel::one_dma(
+        entries,
+        adapters,
+        routes,
+        marks,
+        place,
+        adapter,
+        ring as u16,
+    );
+    put_plan(entries, adapters, routes, marks, plan, output, at)
+}
+
+// Writes the tunnels of rings 1 to `end`, which is left out, until the output is full.
 fn put_rings(
     entries: &[u64],
     adapters: &[u64],
@@ -199,24 +252,30 @@ fn put_rings(
     place: usize,
     adapter: u8,
     end: u32,
+    idle: &[u8; 64],
     output: &mut [u32],
 )
-    requires { ⌜ (1 ≤ end) × (end ≤ 65536) ⌝ }
+    requires { ⌜ (1 ≤ end) × (end ≤ 65536) × Idle (now entries) (now adapters) (now routes) (now marks) place adapter (now idle) ⌝ }
     ensures { λ _. ⌜ RingsPut (now (entries .entry)) (now (adapters .entry)) (now (routes .entry)) (now (marks .entry)) place adapter (end - 1) (now (output .entry)) (now (output .exit)) ⌝ }
 {
     let mut at: usize = 0;
     let mut ring: u32 = 1;
     while ring < end {
-        let plan = tunnel::one_dma(
+        if output.len() <= at {
+            return;
+        }
+        at = put_ring(
             entries,
             adapters,
             routes,
             marks,
             place,
             adapter,
-            ring as u16,
+            ring,
+            idle,
+            output,
+            at,
         );
-        at = put_plan(entries, adapters, routes, marks, plan, output, at);
         ring += 1;
     }
 }
@@ -283,7 +342,17 @@ fn put_dma(
         }))),
         MaxHop::Hop(largest) => {
             let end = rings_end(largest);
-            match tally_rings(entries, adapters, routes, marks, place, adapter, end) {
+            let mut idle = [0u8; 64];
+            match tally_rings(
+                entries,
+                adapters,
+                routes,
+                marks,
+                place,
+                adapter,
+                end,
+                &mut idle,
+            ) {
                 Tally::Refused(refusal) => TunnelsAnswer::Refused(refusal),
                 Tally::Words(need) => {
                     if output.len() < need {
@@ -297,6 +366,7 @@ fn put_dma(
                         place,
                         adapter,
                         end,
+                        &idle,
                         &mut output[..need],
                     );
                     TunnelsAnswer::Words(need)

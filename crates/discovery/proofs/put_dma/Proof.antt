@@ -6,6 +6,7 @@ use borrow.Author.Needs.{needs}
 use Rattle.adapter.specs.Adapter.{adapterSite}
 use Rattle.discovery.proofs.Past.{end-range}
 use Rattle.discovery.proofs.Answering.{dma-absent, dma-unread, dma-refused, dma-short, dma-put}
+use Rattle.discovery.proofs.Rings.{idle-start}
 use Rattle.discovery.proofs.put_dma.Statement.{statement}
 use Rattle.discovery.proofs.put_dma.Tie as tie
 
@@ -22,7 +23,7 @@ rings-end-requires : tie.Need-rings-end-requires
 rings-end-requires c κs = search needs
 
 tally-rings-requires : tie.Need-tally-rings-requires
-tally-rings-requires c κs = let m = c in subst (λ n. (1 ≤ n) × (n ≤ 65536)) (sym (m .rings-end .ensures)) (end-range _)
+tally-rings-requires c κs = let e = subst (λ n. (1 ≤ n) × (n ≤ 65536)) (sym (c .before .rings-end .ensures)) (end-range _) in (e .0, e .1, idle-start _ _ _ _ _ _ 64)
 
 enum-known-refusal : tie.Need-enum-known-refusal
 enum-known-refusal c = search needs
@@ -31,16 +32,16 @@ enum-known-need : tie.Need-enum-known-need
 enum-known-need c = search needs
 
 returns : tie.Need-returns
-returns c = let m = c .before .before .before .before in dma-short _ _ _ _ _ _ _ _ _ _ (m .before .before .before .most .given .1) (m .before .rings-end .ensures) _ (m .tally-rings .ensures) _ (c .before .before .need .given .1) (c .if1 .taken)
+returns c = let m = c .before .before .before .before in dma-short _ _ _ _ _ _ _ _ _ _ (m .before .before .before .before .most .given .1) (m .before .before .rings-end .ensures) _ (m .tally-rings .ensures .0) _ (c .before .before .need .given .1) (c .if1 .taken)
 
 slice-relend-prefix-put-rings : tie.Need-slice-relend-prefix-put-rings
 slice-relend-prefix-put-rings c = search needs
 
 slice-aggregate-put-rings : tie.Need-slice-aggregate-put-rings
-slice-aggregate-put-rings c = sym (length-take-le _ _ (c .before .if1 .left))
+slice-aggregate-put-rings c = sym (length-take-le _ _ (c .before .before .if1 .left))
 
 put-rings-requires : tie.Need-put-rings-requires
-put-rings-requires c κs = let m = c .before .before .before .before .before .before in subst (λ n. (1 ≤ n) × (n ≤ 65536)) (sym (m .rings-end .ensures)) (end-range _)
+put-rings-requires c κs = let m = c .before .before .before .before .before .before in let e = subst (λ n. (1 ≤ n) × (n ≤ 65536)) (sym (m .before .before .rings-end .ensures)) (end-range _) in (e .0, e .1, m .tally-rings .ensures .1)
 
 returns-2 : tie.Need-returns-2
 returns-2 c = dma-absent _ _ _ _ _ _ _ _ (c .enum-told .given .1)
@@ -50,13 +51,13 @@ unfolding adapterSite
 returns-3 c = dma-unread _ _ _ _ _ _ _ _ (c .enum-told2 .given .1)
 
 returns-4 : tie.Need-returns-4
-returns-4 c = let m = c .before .before .before in dma-refused _ _ _ _ _ _ _ _ _ _ (m .before .before .before .most .given .1) (m .before .rings-end .ensures) _ (m .tally-rings .ensures) _ (c .before .refusal .given .1)
+returns-4 c = let m = c .before .before .before in dma-refused _ _ _ _ _ _ _ _ _ _ (m .before .before .before .before .most .given .1) (m .before .before .rings-end .ensures) _ (m .tally-rings .ensures .0) _ (c .before .refusal .given .1)
 
 same-length : tie.Need-same-length
 same-length c = search needs
 
 returns-5 : tie.Need-returns-5
-returns-5 c = let m = c .before .before .before .before .before .before .before .before in dma-put _ _ _ _ _ _ _ _ _ _ (m .before .before .before .most .given .1) (m .before .rings-end .ensures) _ (m .tally-rings .ensures) _ (c .before .before .before .before .before .before .need .given .1) (c .before .before .before .before .if1 .left) (c .before .before .put-rings .last .1 .1 .1 .1 .1 .1 .1 .0) (c .before .before .put-rings .kept .1 .1 .1 .1 .1 .1 .1 .0) (c .before .before .put-rings .ensures)
+returns-5 c = let m = c .before .before .before .before .before .before .before .before .before in let w = c .before .before in dma-put _ _ _ _ _ _ _ _ _ _ (m .before .before .before .before .most .given .1) (m .before .before .rings-end .ensures) _ (m .tally-rings .ensures .0) _ (c .before .before .before .before .before .before .before .need .given .1) (c .before .before .before .before .before .if1 .left) (w .put-rings .last .1 .1 .1 .1 .1 .1 .1 .1 .0) (w .put-rings .kept .1 .1 .1 .1 .1 .1 .1 .1 .0) (w .put-rings .ensures)
 
 pub put-dma-spec : {M : Type 1} → statement M
 put-dma-spec =

@@ -2,27 +2,27 @@
 use Prim.Native.Nat.{_-_}
 use native.Mathlib.Omega.{arith}
 use borrow.Author.Needs.{needs}
-use Rattle.discovery.proofs.Rings.{Putting, putting-start, putting-on, putting-end}
+use Rattle.discovery.proofs.Rings.{Putting, putting-start, putting-end, putting-full, putting-on}
 use Rattle.discovery.proofs.put_rings.Statement.{statement}
 use Rattle.discovery.proofs.put_rings.Tie as tie
 
 abbrev Inv-loop : tie.InvT-loop
-Inv-loop entries adapters routes marks place adapter end output₀ at₀ ring₀ output at ring = Putting entries adapters routes marks place adapter end output₀ at ring output
+Inv-loop entries adapters routes marks place adapter end idle output₀ at₀ ring₀ output at ring = Putting entries adapters routes marks place adapter end output₀ at ring output
 
 abbrev μ-loop : tie.MeasureT-loop
-μ-loop entries adapters routes marks place adapter end output₀ at₀ ring₀ output at ring = end - ring
+μ-loop entries adapters routes marks place adapter end idle output₀ at₀ ring₀ output at ring = end - ring
 
 loop-holds : tie.Need-loop-holds Inv-loop μ-loop
 loop-holds c = putting-start _ _ _ _ _ _ _ _ (c .before .before .before .before .before .pre .0)
 
-cast-one-dma : tie.Need-cast-one-dma Inv-loop μ-loop
-cast-one-dma c = omega (arith, c .loop-test .taken, c .before .before .before .before .before .before .before .pre .1)
+same-length : tie.Need-same-length Inv-loop μ-loop
+same-length c = c .before .before .loop .inv .long
 
-one-dma-requires : tie.Need-one-dma-requires Inv-loop μ-loop
-one-dma-requires c κs = search needs
+returns : tie.Need-returns Inv-loop μ-loop
+returns c = putting-full _ _ _ _ _ _ _ _ _ _ _ (c .before .before .loop .inv) (c .if1 .taken)
 
-put-plan-requires : tie.Need-put-plan-requires Inv-loop μ-loop
-put-plan-requires c κs = (c .before .before .before .loop .inv .within, c .before .one-dma .ensures .three)
+put-ring-requires : tie.Need-put-ring-requires Inv-loop μ-loop
+put-ring-requires c κs = (omega (arith, c .before .before .loop-test .taken, c .before .before .before .before .before .before .before .before .before .pre .1), c .before .before .before .loop .inv .within, c .before .before .before .before .before .before .before .before .before .pre .2)
 
 add-ring : tie.Need-add-ring Inv-loop μ-loop
 add-ring c = omega (arith, c .before .before .before .before .before .loop-test .taken, c .before .before .before .before .before .before .before .before .before .before .before .before .pre .1)
@@ -31,13 +31,13 @@ loop-less : tie.Need-loop-less Inv-loop μ-loop
 loop-less c = omega (arith, c .before .before .before .before .before .loop-test .taken)
 
 loop-again : tie.Need-loop-again Inv-loop μ-loop
-loop-again c = let m = c .before .before in putting-on _ _ _ _ _ _ _ _ _ _ _ (m .before .before .before .before .loop .inv) (m .before .before .before .loop-test .taken) _ (m .before .before .one-dma .ensures) _ _ (m .put-plan .ensures)
+loop-again c = let m = c .before .before in putting-on _ _ _ _ _ _ _ _ _ _ _ (m .before .before .before .before .loop .inv) (m .before .before .before .loop-test .taken) _ _ (m .put-ring .ensures)
 
-same-length : tie.Need-same-length Inv-loop μ-loop
-same-length c = c .before .loop .inv .long
+same-length-2 : tie.Need-same-length-2 Inv-loop μ-loop
+same-length-2 c = c .before .loop .inv .long
 
-returns : tie.Need-returns Inv-loop μ-loop
-returns c = putting-end _ _ _ _ _ _ _ _ _ _ _ (c .before .loop .inv) (c .loop-test .left)
+returns-2 : tie.Need-returns-2 Inv-loop μ-loop
+returns-2 c = putting-end _ _ _ _ _ _ _ _ _ _ _ (c .before .loop .inv) (c .loop-test .left)
 
 pub put-rings-spec : {M : Type 1} → statement M
 put-rings-spec =
@@ -46,11 +46,11 @@ put-rings-spec =
     Inv-loop
     μ-loop
     loop-holds
-    cast-one-dma
-    one-dma-requires
-    put-plan-requires
+    same-length
+    returns
+    put-ring-requires
     add-ring
     loop-less
     loop-again
-    same-length
-    returns)
+    same-length-2
+    returns-2)
