@@ -1,6 +1,5 @@
-ghost use Prim.Native.Nat.{_<_};
+ghost use Prim.Native.Nat.{_≤_, _<_};
 ghost use mathlib.Core.Path.{_≡_};
-ghost use mathlib.Core.Bool.{false};
 ghost use lib.ListN.{length};
 ghost use Rattle.scan.specs.Scan.{isSpace, isNot, isLineFeed, isHigh, placeFrom, TokenAt};
 
@@ -83,31 +82,31 @@ pub fn line_end(s: &[u8], at: usize) -> usize
     i
 }
 
-// 1 for a byte above 127.
-fn high(b: u8) -> usize
-    ensures { λ r. ⌜ (r < 2) × (r ≡ 0 → isHigh b ≡ false) ⌝ }
+// The larger of two bytes.
+fn larger(a: u8, b: u8) -> u8
+    ensures { λ r. ⌜ (a ≤ r) × (b ≤ r) ⌝ }
 {
-    (b / 128) as usize
+    if a < b { b } else { a }
 }
 
-// How many bytes are above 127: one pass that never stops early, so that it takes many bytes at a time.
-fn highs(s: &[u8]) -> usize
-    ensures { λ r. ⌜ (r ≡ 0 → placeFrom isHigh (now (s .entry)) 0 ≡ length (now (s .entry))) ⌝ }
+// The largest byte, or 0: one pass that never stops early, so that it takes many bytes at a time.
+fn largest(s: &[u8]) -> u8
+    ensures { λ r. ⌜ (r < 128 → placeFrom isHigh (now (s .entry)) 0 ≡ length (now (s .entry))) ⌝ }
 {
-    let mut n: usize = 0;
+    let mut top: u8 = 0;
     let mut i: usize = 0;
     while i < s.len() {
-        n += high(s[i]);
+        top = larger(top, s[i]);
         i += 1;
     }
-    n
+    top
 }
 
 // The place of the first byte above 127, or the length.
 pub fn first_high(s: &[u8]) -> usize
     ensures { λ r. ⌜ r ≡ placeFrom isHigh (now (s .entry)) 0 ⌝ }
 {
-    if highs(s) == 0 {
+    if largest(s) < 128 {
         return s.len();
     }
     let mut i = 0;

@@ -21,6 +21,13 @@ fn page_room() -> [u8; 786432]
     [0; 786432]
 }
 
+// Room for the lines of most adapters. The largest room is made only where it is needed: filling it takes as long as all else of a small survey.
+fn small_room() -> [u8; 8192]
+    ensures { λ r. ⌜ 8192 ≡ length r ⌝ }
+{
+    [0; 8192]
+}
+
 fn write_refused(number: u8) {
     let mut line = [0u8; 16];
     if let Printed::Bytes(n) = printed::refused(number, &mut line) {
@@ -35,7 +42,35 @@ fn write_total(tunnels: usize) {
     }
 }
 
-// Writes each adapter's lines, by way of a buffer that holds any page. None is refused here, since each was tried.
+// Writes an adapter's lines, by way of a buffer that holds any page.
+fn write_long_page(entries: &[u64], adapters: &[u64], routes: &[u64], marks: &[u64], index: usize) {
+    let mut buffer = page_room();
+    if let Page::Bytes(n) = report::put_page(entries, adapters, routes, marks, index, &mut buffer) {
+        io::write_all(STDOUT_FILENO, &buffer[..n]);
+    }
+}
+
+// Writes an adapter's lines. None is refused here, since each was tried.
+fn write_page(
+    entries: &[u64],
+    adapters: &[u64],
+    routes: &[u64],
+    marks: &[u64],
+    index: usize,
+    buffer: &mut [u8],
+) {
+    match report::put_page(entries, adapters, routes, marks, index, buffer) {
+        Page::Bytes(n) => {
+            io::write_all(STDOUT_FILENO, &buffer[..n]);
+        }
+        Page::Short(_) => {
+            write_long_page(entries, adapters, routes, marks, index);
+        }
+        Page::Refused(_) => {}
+    }
+}
+
+// Writes each adapter's lines in order.
 fn write_pages(
     entries: &[u64],
     adapters: &[u64],
@@ -45,9 +80,7 @@ fn write_pages(
 ) {
     let mut index = 0;
     while index < adapters.len() {
-        if let Page::Bytes(n) = report::put_page(entries, adapters, routes, marks, index, buffer) {
-            io::write_all(STDOUT_FILENO, &buffer[..n]);
-        }
+        write_page(entries, adapters, routes, marks, index, buffer);
         index += 1;
     }
 }
@@ -69,7 +102,7 @@ fn write_text(text: &[u8]) {
             let table = opened.adapters;
             let routes = opened.routes;
             let marks = opened.marks;
-            let mut buffer = page_room();
+            let mut buffer = small_room();
             write_pages(
                 &paths[..entries],
                 &table[..adapters],

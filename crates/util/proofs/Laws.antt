@@ -1,7 +1,7 @@
 -- Laws on numbers: what is left to read after some digits, over any base and largest value. Assumes nothing.
-use Prim.Native.Nat.{ℕ, _+_, _-_, _*_, _/_, _%_, _^_, _<_, _≤_}
+use Prim.Native.Nat.{ℕ, zero, suc, _+_, _-_, _*_, _/_, _%_, _^_, _<_, _≤_}
 use native.Mathlib.Omega.{arith}
-use native.Mathlib.Nat.{le-mul-of-pos-right, le-div-iff-mul-le, div-lt-iff-lt-mul, mod-one, zero-mod, div-eq-of-lt, lt-of-lt-of-le}
+use native.Mathlib.Nat.{zero-add, suc-add, le-mul-of-pos-right, mul-le-mul-left, le-div-iff-mul-le, div-lt-iff-lt-mul, mod-one, zero-mod, div-eq-of-lt, lt-of-lt-of-le}
 use native.Mathlib.Numerals.{add-one}
 use mathlib.Core.Path.{_≡_, refl, _∙_, ap, sym, subst}
 use mathlib.Core.Bool.{Bool, true, false, cond, _&&_, false≢true}
@@ -31,7 +31,7 @@ module _ (base : ℕ) (pos : 0 < base) where
   value-grows v (b ∷ s) = omega (arith, value-grows (v * base + digitOf b) s, le-mul-of-pos-right v pos)
 
   module _ (max v : ℕ) where
-    rest-past : (t : List ℕ) → max < v → rest base max v t ≡ None
+    pub rest-past : (t : List ℕ) → max < v → rest base max v t ≡ None
     unfolding rest
     rest-past t o = simp (lt-leb (valueOf base v t) max (omega (arith, value-grows v t)), and-false)
 
@@ -54,6 +54,32 @@ module _ (base : ℕ) (pos : 0 < base) where
     pub rest-end : length s ≤ i → v ≤ max → rest base max v (drop i s) ≡ Value v
     unfolding rest allDigits valueOf
     rest-end h o = rw (drop-of-length-le s h) (simp (le-leb _ _ o))
+
+-- numbers of i digits, each of at most half a byte, are below this
+unfoldable pub below : ℕ → ℕ
+below zero = 1
+below (suc i) = below i * 16
+
+pub next-below : (base v d i : ℕ) → base ≤ 16 → d < base → v < below i → v * base + d < below (i + 1)
+unfolding below
+next-below base v d i b k h =
+    let m : v * base ≤ v * 16 = mul-le-mul-left v b in
+    let e : below (i + 1) ≡ below i * 16 = ap below (add-one i) in
+    omega (arith, m, k, b, h, e)
+
+below-grows : (k i : ℕ) → below i ≤ below (k + i)
+unfolding below
+below-grows zero i = omega (arith, ap below (zero-add i))
+below-grows (suc k) i =
+    let e : below (suc k + i) ≡ below (k + i) * 16 = ap below (suc-add k i) in
+    omega (arith, e, below-grows k i)
+
+-- fifteen fit 64 bits
+pub few-below : (i : ℕ) → i ≤ 15 → below i ≤ 1152921504606846976
+unfolding below
+few-below i h =
+    let e : below ((15 - i) + i) ≡ 1152921504606846976 = ap below (let z : (15 - i) + i ≡ 15 = omega (arith, h) in z) in
+    omega (arith, e, below-grows (15 - i) i)
 
 -- no digit takes the sum past max: v * base fits where v is at most max / base, and is too large where v is above
 pub fits-base : {base v max : ℕ} → 0 < base → v ≤ max / base → v * base ≤ max

@@ -1,3 +1,4 @@
 pub mod Bits
 pub mod Number
 pub mod Text
+pub mod Work

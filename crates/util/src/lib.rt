@@ -1,5 +1,7 @@
+ghost use Rattle.util.specs.Work.{digitBits};
 ghost use mathlib.Core.Path.{_≡_};
-ghost use Prim.Native.Nat.{_<_};
+ghost use Prim.Native.Nat.{_<_, _≤_};
+ghost use lib.ListN.{length};
 ghost use Rattle.util.specs.Number.{digitOf, afterPrefix, afterPlus, numberOf, hexNumber, decimalNumber};
 ghost use Rattle.util.specs.Bits.{bitsOf};
 
@@ -16,265 +18,10 @@ pub const MAX_32: u64 = 0xffff_ffff;
 
 pub const MAX_64: u64 = 0xffff_ffff_ffff_ffff;
 
-// Digits by their bytes, hexadecimal in either case; 16 for any other byte. A table, since tests one after another are mispredicted at every other digit.
-const DIGITS: [u8; 256] = [
-    16,
-    16,
-    16,
-    16,
-    16,
-    16,
-    16,
-    16,
-    16,
-    16,
-    16,
-    16,
-    16,
-    16,
-    16,
-    16,
-    16,
-    16,
-    16,
-    16,
-    16,
-    16,
-    16,
-    16,
-    16,
-    16,
-    16,
-    16,
-    16,
-    16,
-    16,
-    16,
-    16,
-    16,
-    16,
-    16,
-    16,
-    16,
-    16,
-    16,
-    16,
-    16,
-    16,
-    16,
-    16,
-    16,
-    16,
-    16,
-    0,
-    1,
-    2,
-    3,
-    4,
-    5,
-    6,
-    7,
-    8,
-    9,
-    16,
-    16,
-    16,
-    16,
-    16,
-    16,
-    16,
-    10,
-    11,
-    12,
-    13,
-    14,
-    15,
-    16,
-    16,
-    16,
-    16,
-    16,
-    16,
-    16,
-    16,
-    16,
-    16,
-    16,
-    16,
-    16,
-    16,
-    16,
-    16,
-    16,
-    16,
-    16,
-    16,
-    16,
-    16,
-    16,
-    16,
-    16,
-    16,
-    10,
-    11,
-    12,
-    13,
-    14,
-    15,
-    16,
-    16,
-    16,
-    16,
-    16,
-    16,
-    16,
-    16,
-    16,
-    16,
-    16,
-    16,
-    16,
-    16,
-    16,
-    16,
-    16,
-    16,
-    16,
-    16,
-    16,
-    16,
-    16,
-    16,
-    16,
-    16,
-    16,
-    16,
-    16,
-    16,
-    16,
-    16,
-    16,
-    16,
-    16,
-    16,
-    16,
-    16,
-    16,
-    16,
-    16,
-    16,
-    16,
-    16,
-    16,
-    16,
-    16,
-    16,
-    16,
-    16,
-    16,
-    16,
-    16,
-    16,
-    16,
-    16,
-    16,
-    16,
-    16,
-    16,
-    16,
-    16,
-    16,
-    16,
-    16,
-    16,
-    16,
-    16,
-    16,
-    16,
-    16,
-    16,
-    16,
-    16,
-    16,
-    16,
-    16,
-    16,
-    16,
-    16,
-    16,
-    16,
-    16,
-    16,
-    16,
-    16,
-    16,
-    16,
-    16,
-    16,
-    16,
-    16,
-    16,
-    16,
-    16,
-    16,
-    16,
-    16,
-    16,
-    16,
-    16,
-    16,
-    16,
-    16,
-    16,
-    16,
-    16,
-    16,
-    16,
-    16,
-    16,
-    16,
-    16,
-    16,
-    16,
-    16,
-    16,
-    16,
-    16,
-    16,
-    16,
-    16,
-    16,
-    16,
-    16,
-    16,
-    16,
-    16,
-    16,
-    16,
-    16,
-    16,
-    16,
-    16,
-    16,
-    16,
-    16,
-    16,
-    16,
-    16,
-    16,
-    16,
-    16,
-    16,
-    16,
-    16,
-    16,
-    16,
-    16,
-    16,
-    16,
-    16,
-    16,
-];
+// Bit b % 64 says whether byte b is a digit: `0` to `9` below 64, `A` to `F` and `a` to `f` above.
+const BELOW: u64 = 0x03ff_0000_0000_0000;
+
+const ABOVE: u64 = 0x0000_007e_0000_007e;
 
 fn wide(x: u8) -> u64
     ensures { λ r. ⌜ r ≡ x ⌝ }
@@ -282,11 +29,28 @@ fn wide(x: u8) -> u64
     x as u64
 }
 
-// The value of a digit; 16 for any other byte.
+// The bits for a byte.
+fn digit_bits(b: u8) -> u64
+    ensures { λ r. ⌜ r ≡ digitBits b ⌝ }
+{
+    if b < 64 {
+        return BELOW;
+    }
+    if b < 128 {
+        return ABOVE;
+    }
+    0
+}
+
+// The value of a digit, hexadecimal in either case; 16 for any other byte. No test tells the kinds of digits apart, since it would be mispredicted at every other one.
 fn digit(b: u8) -> u64
     ensures { λ r. ⌜ r ≡ digitOf b ⌝ }
 {
-    wide(DIGITS[b as usize])
+    let k = wide(b);
+    if (digit_bits(b) >> (k % 64)) % 2 == 1 {
+        return k % 16 + 9 * (k / 64);
+    }
+    16
 }
 
 // The text after one `0x`, if it begins with that.
@@ -318,8 +82,29 @@ fn after_plus(s: &[u8]) -> &[u8]
     &s[1..]
 }
 
-// The number that `s` writes in the base, if it is one of at most `max`. Each digit is tested before it is added, so that no sum passes `max`.
-fn digits(s: &[u8], base: u64, max: u64) -> Number
+// The number that `s` writes in the base, if it is one of at most `max`; of so few digits that no sum passes 64 bits.
+fn short_digits(s: &[u8], base: u64, max: u64) -> Number
+    requires { ⌜ (0 < base) × (base ≤ 16) × (0 < length (now s)) × (length (now s) ≤ 15) ⌝ }
+    ensures { λ r. ⌜ r ≡ numberOf base max (now (s .entry)) ⌝ }
+{
+    let mut v: u64 = 0;
+    let mut i: usize = 0;
+    while i < s.len() {
+        let d = digit(s[i]);
+        if base <= d {
+            return Number::None;
+        }
+        v = v * base + d;
+        i += 1;
+    }
+    if max < v {
+        return Number::None;
+    }
+    Number::Value(v)
+}
+
+// The same of any number of digits. Each digit is tested before it is added, so that no sum passes `max`.
+fn long_digits(s: &[u8], base: u64, max: u64) -> Number
     requires { ⌜ 0 < base ⌝ }
     ensures { λ r. ⌜ r ≡ numberOf base max (now (s .entry)) ⌝ }
 {
@@ -345,6 +130,20 @@ fn digits(s: &[u8], base: u64, max: u64) -> Number
         i += 1;
     }
     Number::Value(v)
+}
+
+// The same of any text.
+fn digits(s: &[u8], base: u64, max: u64) -> Number
+    requires { ⌜ (0 < base) × (base ≤ 16) ⌝ }
+    ensures { λ r. ⌜ r ≡ numberOf base max (now (s .entry)) ⌝ }
+{
+    if 15 < s.len() {
+        return long_digits(s, base, max);
+    }
+    if s.len() < 1 {
+        return Number::None;
+    }
+    short_digits(s, base, max)
 }
 
 // A hexadecimal number of at most `max`, as the Rust's `parse_hex` reads it at the width whose largest value is `max`.

@@ -15,11 +15,11 @@ Inv-loop s i₀ i = placeFrom isHigh s 0 ≡ placeFrom isHigh s i
 abbrev μ-loop : tie.MeasureT-loop
 μ-loop s i₀ i = length s - i
 
-highs-requires : tie.Need-highs-requires Inv-loop μ-loop
-highs-requires c κs = search needs
+largest-requires : tie.Need-largest-requires Inv-loop μ-loop
+largest-requires c κs = search needs
 
 returns : tie.Need-returns Inv-loop μ-loop
-returns c = sym (c .before .highs .ensures (c .if1 .taken))
+returns c = sym (c .before .largest .ensures (c .if1 .taken))
 
 loop-holds : tie.Need-loop-holds Inv-loop μ-loop
 loop-holds c = refl
@@ -53,7 +53,7 @@ first-high-spec =
     (tie.spec
     Inv-loop
     μ-loop
-    highs-requires
+    largest-requires
     returns
     loop-holds
     shared-slice-read-if2
