@@ -1,9 +1,6 @@
--- Each page is within the buffer that it was printed to.
 use Prim.Native.Nat.{_≤_, _-_}
-use mathlib.Core.Path.{_≡_, sym}
+use mathlib.Core.Path.{_≡_}
 use lib.ListN.{length}
-use lib.Seq.{length-take-le}
-use native.Mathlib.Omega.{arith}
 use borrow.Author.Needs.{needs}
 use Rattle.tunnels.proofs.write_pages.Statement.{statement}
 use Rattle.tunnels.proofs.write_pages.Tie as tie
@@ -17,20 +14,8 @@ abbrev μ-loop : tie.MeasureT-loop
 loop-holds : tie.Need-loop-holds Inv-loop μ-loop
 loop-holds c = search needs
 
-put-page-requires : tie.Need-put-page-requires Inv-loop μ-loop
-put-page-requires c κs = search needs
-
-enum-known-n : tie.Need-enum-known-n Inv-loop μ-loop
-enum-known-n c = search needs
-
-slice-reshare-prefix-write-all : tie.Need-slice-reshare-prefix-write-all Inv-loop μ-loop
-slice-reshare-prefix-write-all c = omega (arith, c .before .before .before .before .before .put-page .ensures .within _ (c .before .n .given .1))
-
-slice-aggregate-write-all : tie.Need-slice-aggregate-write-all Inv-loop μ-loop
-slice-aggregate-write-all c = sym (length-take-le _ _ (omega (arith, c .before .before .before .before .before .before .put-page .ensures .within _ (c .before .before .n .given .1))))
-
-write-all-requires : tie.Need-write-all-requires Inv-loop μ-loop
-write-all-requires c κs = search needs
+write-page-requires : tie.Need-write-page-requires Inv-loop μ-loop
+write-page-requires c κs = search needs
 
 add-index : tie.Need-add-index Inv-loop μ-loop
 add-index c = search needs
@@ -54,11 +39,7 @@ write-pages-spec =
     Inv-loop
     μ-loop
     loop-holds
-    put-page-requires
-    enum-known-n
-    slice-reshare-prefix-write-all
-    slice-aggregate-write-all
-    write-all-requires
+    write-page-requires
     add-index
     loop-less
     loop-again

@@ -20,8 +20,8 @@ enum-known-answer-2 c = search needs
 write-total-requires : tie.Need-write-total-requires
 write-total-requires c κs = search needs
 
-page-room-requires : tie.Need-page-room-requires
-page-room-requires c κs = search needs
+small-room-requires : tie.Need-small-room-requires
+small-room-requires c κs = search needs
 
 array-share-prefix-paths : tie.Need-array-share-prefix-paths
 array-share-prefix-paths c = let k = c .before .before .before .before .before .before .before in held (k .before .before .«open» .ok) (k .before .before .«open» .ensures) (k .answer2 .given .1) .entries
@@ -68,7 +68,7 @@ write-text-spec =
     write-refused-requires
     enum-known-answer-2
     write-total-requires
-    page-room-requires
+    small-room-requires
     array-share-prefix-paths
     slice-aggregate-write-pages
     array-share-prefix-table
