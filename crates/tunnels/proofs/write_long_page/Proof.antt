@@ -19,10 +19,10 @@ enum-known-n : tie.Need-enum-known-n
 enum-known-n c = search needs
 
 array-share-prefix-buffer : tie.Need-array-share-prefix-buffer
-array-share-prefix-buffer c = ?
+array-share-prefix-buffer c = omega (arith, c .before .before .before .before .put-page .ensures .within _ (c .before .n .given .1), c .before .before .before .before .put-page .kept)
 
 slice-aggregate-write-all : tie.Need-slice-aggregate-write-all
-slice-aggregate-write-all c = ?
+slice-aggregate-write-all c = sym (length-take-le _ _ (omega (arith, c .before .before .before .before .before .put-page .ensures .within _ (c .before .before .n .given .1), c .before .before .before .before .before .put-page .kept)))
 
 write-all-requires : tie.Need-write-all-requires
 write-all-requires c κs = search needs
