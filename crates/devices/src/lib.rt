@@ -1,15 +1,12 @@
-// The calls on one device of a survey, and the routes of its adapters. Each loads the survey, and answers from the tables.
+// The calls on one device of a survey. Each loads the survey, and answers from the tables.
 ghost use mathlib.Core.Path.{_≡_};
-ghost use Rattle.fabric.specs.Links.{routeOutcome};
-ghost use Rattle.devices.specs.Calls.{deviceAnswer, upstreamAnswer, upstreamRouteAnswer, downstreamRouteAnswer, deviceOutcome, upstreamOutcome};
-ghost use Rattle.devices.specs.Work.{readDevice, readOutcome, readPair, pairOutcome};
+ghost use Rattle.devices.specs.Calls.{deviceAnswer, upstreamAnswer, deviceOutcome, upstreamOutcome};
+ghost use Rattle.devices.specs.Work.{readDevice, readOutcome};
 use adapter::Facts;
-use fabric::RouteAnswer;
 use load::LoadAnswer;
 use load::Refusal;
 use refusal::Fault;
 use refusal::Site;
-use tables::AdapterFound;
 use tables::DeviceFacts;
 use tables::DeviceFound;
 use tables::Upstream;
@@ -70,38 +67,6 @@ fn read_device(descriptions: &[u32], survey: &[u32], place: usize) -> DeviceRead
     }
 }
 
-// The adapter of the device at a place with a number, and the device: 3, 4, loading, 14.
-fn read_pair(descriptions: &[u32], survey: &[u32], place: usize, number: u8) -> PairRead
-    ensures { λ r. ⌜ pairOutcome place r ≡ readPair (now (descriptions .entry)) (now (survey .entry)) place number ⌝ }
-{
-    let loaded = load::load(descriptions, survey);
-    let answer = loaded.answer;
-    match answer {
-        LoadAnswer::Refused(refusal) => PairRead::Refused(refusal),
-        LoadAnswer::Tables {
-            entries: _,
-            adapters,
-            devices,
-        } => {
-            let routes = loaded.routes;
-            let marks = loaded.marks;
-            let DeviceFound::Device(d) = routers::find_device(
-                &routes[..devices],
-                &marks[..devices],
-                place,
-            ) else {
-                return PairRead::Refused(Refusal::Missing);
-            };
-            let table = loaded.adapters;
-            let AdapterFound::Adapter(f) = search::find_adapter(&table[..adapters], place, number)
-            else {
-                return PairRead::Refused(Refusal::Missing);
-            };
-            PairRead::Pair(d, f)
-        }
-    }
-}
-
 // Kind, USB4, domain, route and depth.
 pub fn device(descriptions: &[u32], survey: &[u32], place: usize) -> DeviceAnswer
     ensures { λ r. ⌜ deviceOutcome r ≡ deviceAnswer (now (descriptions .entry)) (now (survey .entry)) place ⌝ }
@@ -138,30 +103,5 @@ pub fn upstream_adapter(descriptions: &[u32], survey: &[u32], place: usize) -> U
                 }))),
             }
         }
-    }
-}
-
-// The route before an adapter that is an upstream lane, none, or 11.
-pub fn upstream_route(descriptions: &[u32], survey: &[u32], place: usize, number: u8) -> RouteAnswer
-    ensures { λ r. ⌜ routeOutcome r ≡ upstreamRouteAnswer (now (descriptions .entry)) (now (survey .entry)) place number ⌝ }
-{
-    match read_pair(descriptions, survey, place, number) {
-        PairRead::Refused(refusal) => RouteAnswer::Refused(refusal),
-        PairRead::Pair(d, f) => fabric::upstream_route_of(place, d, f),
-    }
-}
-
-// The route behind an adapter that is a lane, none, or 12.
-pub fn downstream_route(
-    descriptions: &[u32],
-    survey: &[u32],
-    place: usize,
-    number: u8,
-) -> RouteAnswer
-    ensures { λ r. ⌜ routeOutcome r ≡ downstreamRouteAnswer (now (descriptions .entry)) (now (survey .entry)) place number ⌝ }
-{
-    match read_pair(descriptions, survey, place, number) {
-        PairRead::Refused(refusal) => RouteAnswer::Refused(refusal),
-        PairRead::Pair(d, f) => fabric::downstream_route_of(place, d, f),
     }
 }

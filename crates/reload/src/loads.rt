@@ -260,12 +260,12 @@ fn after_routes(line: &[u8], at: usize, d: &[u32], survey: &[u32], place: usize,
     let a = after_said(
         line,
         at,
-        route_said(devices::upstream_route(d, survey, place, n)),
+        route_said(routing::upstream_route(d, survey, place, n)),
     );
     after_said(
         line,
         a,
-        route_said(devices::downstream_route(d, survey, place, n)),
+        route_said(routing::downstream_route(d, survey, place, n)),
     )
 }
 
@@ -325,11 +325,11 @@ fn devices_say(d: &[u32], survey: &[u32], place: usize, n: u8, head: u32) -> boo
         )
         && is(parent_said(parents::parent_from(d, survey, place)), head)
         && is(
-            route_said(devices::upstream_route(d, survey, place, n)),
+            route_said(routing::upstream_route(d, survey, place, n)),
             head,
         )
         && is(
-            route_said(devices::downstream_route(d, survey, place, n)),
+            route_said(routing::downstream_route(d, survey, place, n)),
             head,
         )
 }

@@ -1,10 +1,10 @@
 use mathlib.Core.Path.{_∙_}
 use Rattle.fabric.specs.Links.{downstreamRouteOf, routeOutcome}
 use Rattle.devices.specs.Calls.{downstreamRouteAnswer}
 use Rattle.devices.proofs.Laws.{pair-refused, pair-both}
 use borrow.Author.Needs.{needs}
-use Rattle.devices.proofs.downstream_route.Statement.{statement}
-use Rattle.devices.proofs.downstream_route.Tie as tie
+use Rattle.routing.proofs.downstream_route.Statement.{statement}
+use Rattle.routing.proofs.downstream_route.Tie as tie
 
 -- src/lib.rt:233:11
 read-pair-requires : tie.Need-read-pair-requires

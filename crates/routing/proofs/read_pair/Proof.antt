@@ -5,12 +5,12 @@ use mathlib.Core.Option.{none}
 use Rattle.tables.specs.Found.{deviceFound, adapterFound, deviceRow}
 use Rattle.refusal.specs.Outcome.{bind}
 use Rattle.load.specs.Answers.{present, refusedBy}
 use Rattle.devices.specs.Work.{readPair, pairOutcome}
 use Rattle.devices.proofs.Laws.{held, asked, pairOf, pairIn, pair-asked}
 use Rattle.load.proofs.Result.{load-refused}
 use borrow.Author.Needs.{needs}
-use Rattle.devices.proofs.read_pair.Statement.{statement}
-use Rattle.devices.proofs.read_pair.Tie as tie
+use Rattle.routing.proofs.read_pair.Statement.{statement}
+use Rattle.routing.proofs.read_pair.Tie as tie
 
 -- src/lib.rt:98:9
 load-requires : tie.Need-load-requires
