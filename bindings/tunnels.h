@@ -8,8 +8,8 @@
  *   a result             0, 1, the result's words, then 0
  *   none or absent       0, 0, then 0
  *
- * Every word of the answer is written. After a refusal, none or absent every other buffer is as it was; after a result, words past it keep
- * their contents.
+ * Every word of the answer is written. After a refusal, none or absent every other buffer is as it was; after a result, words of the output
+ * past it keep their contents. No pointer is null, also where its number of elements is 0.
  */
 #ifndef TUNNELS_H
 #define TUNNELS_H
@@ -34,9 +34,9 @@ enum { TUNNELS_REFUSAL = 0, TUNNELS_FOUND = 1, TUNNELS_RESULT = 2, TUNNELS_ANSWE
  */
 enum {
     TUNNELS_NOT_ASCII = 1,            /* byte place: a byte is above 127 */
-    TUNNELS_SHORT = 2,                /* words needed: output or scratch is shorter than a complete answer */
+    TUNNELS_SHORT = 2,                /* words needed: output or scratch is shorter than a complete answer; a text that is too long: its bytes */
     TUNNELS_BAD_DESCRIPTIONS = 3,     /* head place of the first group that breaks the rules; 16,384: too long */
-    TUNNELS_BAD_SURVEY = 4,           /* the same for the survey */
+    TUNNELS_BAD_SURVEY = 4,           /* the same for the survey; of a text, see tunnels_text */
     TUNNELS_FEW_REGISTERS = 5,        /* registers read, but a router has none or an adapter fewer than three */
     TUNNELS_NO_FIELD = 6,             /* a named register lacks the field, a flag isn't one bit, or a flag of a nameless register */
     TUNNELS_BAD_ADAPTERS = 7,         /* under a device that isn't a router or has no ROUTER_CS_1, or not 1 to Max Adapter in order */
@@ -125,9 +125,16 @@ enum {
  * Words. A head word's top four bits are its kind. A register takes four words: head, relative offset and cap id, vs id, value. In result
  * words a tunnel has one word, then its paths; a path has one word, then its hops; a hop has two, its head and its HopIDs.
  */
-enum { TUNNELS_WORD_REGISTER = 5, TUNNELS_WORD_TUNNEL = 8, TUNNELS_WORD_PATH = 9, TUNNELS_WORD_HOP = 10 };
+enum { TUNNELS_WORD_DEVICE = 3, TUNNELS_WORD_ADAPTER = 4, TUNNELS_WORD_REGISTER = 5, TUNNELS_WORD_TUNNEL = 8, TUNNELS_WORD_PATH = 9, TUNNELS_WORD_HOP = 10 };
 
 #define TUNNELS_WORD_KIND(head) ((uint32_t)(head) >> 28)
+
+/*
+ * Survey words from dumps of one's own: a device's head, domain, route low, route high; its records; for each adapter its head, its records and,
+ * with TUNNELS_REGISTER_PATH set in each head, the records of its path dump. tunnels_check_survey says whether they follow the rules; document 01, "Words", has the bits
+ * of the heads. tunnels_text makes them from a text.
+ */
+#define TUNNELS_REGISTER_PATH 0x10000u
 
 #define TUNNELS_REGISTER_OFFSET(head) ((uint32_t)(head) & 0xffffu)
 #define TUNNELS_REGISTER_RELATIVE(second) ((uint32_t)(second) >> 16)
@@ -189,7 +196,8 @@ void tunnels_field(const uint32_t *descriptions, size_t descriptions_len, size_t
 
 /*
  * A text of document 01's program as survey words. Result: their number. Refused, in this order: 2 with the text's length if that is above
- * TUNNELS_MAX_TEXT, 1, 4, and 2 with the words needed. TUNNELS_MAX_WORDS words of output are always enough.
+ * TUNNELS_MAX_TEXT, 1, 4, and 2 with the words needed. 4 comes with the number of words made before the line that may not stand there, which
+ * may pass TUNNELS_MAX_WORDS, or with TUNNELS_MAX_WORDS if the survey is too long. TUNNELS_MAX_WORDS words of output are always enough.
  */
 void tunnels_text(const uint8_t *text, size_t text_len, uint32_t *output, size_t output_len, uint64_t answer[8]);
 
@@ -198,7 +206,8 @@ void tunnels_check_survey(const uint32_t *words, size_t words_len, uint64_t answ
 
 /*
  * The calls below load the survey. Refused, in this order: 3, 4, then 5 to 9 as loading meets them, then 14, and then what each of them
- * says. A place is a device's number in the survey, from 0.
+ * says. A place is a device's number in the survey, from 0; adapters are numbered from 1 without a gap, so whoever wants all of them asks
+ * until 14. Each call loads the survey anew, which takes longer than all else that it does.
  */
 
 /* Whether a survey is accepted. Result: its number of devices, its number of valid path entries. Refused: 3 to 9. */
@@ -210,7 +219,7 @@ void tunnels_load(const uint32_t *descriptions, size_t descriptions_len, const u
  */
 void tunnels_adapter(const uint32_t *descriptions, size_t descriptions_len, const uint32_t *survey, size_t survey_len, size_t place, uint8_t adapter, uint64_t answer[8]);
 
-/* An adapter's link speed. Result: the speed. Refused: 3 to 9, 14, 6. */
+/* An adapter's link speed. Result: the speed; unknown for one that is no lane, or whose state has none. Refused: 3 to 9, 14, 6. */
 void tunnels_link_speed(const uint32_t *descriptions, size_t descriptions_len, const uint32_t *survey, size_t survey_len, size_t place, uint8_t adapter, uint64_t answer[8]);
 
 /* An adapter's largest HopID. Result: the HopID. None: it has none. Refused: 3 to 9, 14, 6. */
@@ -227,7 +236,7 @@ void tunnels_walk(const uint32_t *descriptions, size_t descriptions_len, const u
 
 /*
  * The tunnels from an adapter. Result: the number of words in output, tunnels with their paths and hops; 0 is an empty list. None: absent.
- * Refused: 3 to 9, 14, 6 and 10 to 13 as met, 2 last.
+ * Refused: 3 to 9, 14, 6 and 10 to 13 as met, 2 last. No size is always enough: after 2, ask again with answer[1] words.
  */
 void tunnels_discover(const uint32_t *descriptions, size_t descriptions_len, const uint32_t *survey, size_t survey_len, size_t place, uint8_t adapter, uint32_t *output, size_t output_len, uint64_t answer[8]);
 

@@ -18,7 +18,7 @@ pub enum Refusal {
     Short { needed: usize },
     /// 3: the head place of the first description group that breaks the rules; 16,384 if there are too many words.
     Descriptions { place: usize },
-    /// 4: the same for the survey.
+    /// 4: the same for the survey. Of a text: how many words were made before the line that may not stand there, or 16,384 if the survey is too long.
     Survey { place: usize },
     /// 5: registers read, but a router has none or an adapter fewer than three.
     FewRegisters(Site),

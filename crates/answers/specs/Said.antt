@@ -1,11 +1,11 @@
 -- The eight words in which an exported call says its answer. Assumes nothing.
 use Prim.Native.Nat.{ℕ, zero, suc}
 use mathlib.Core.Path.{_≡_}
-use mathlib.Core.Bool.{cond}
+use mathlib.Core.Bool.{Bool, false, cond, _&&_}
 use mathlib.Core.List.{List, [], _∷_}
 use mathlib.Core.Option.{Option, none, some}
 use lib.Dec.{eqb}
-use lib.ListN.{length}
+use lib.ListN.{length, getD}
 use Rattle.refusal.specs.Outcome.{Outcome, refused, value, bind}
 use Rattle.util.specs.Number.{hexNumber}
 use Rattle.util.specs.declared.Number.{Number}
@@ -30,6 +30,10 @@ unfoldable pub said : Outcome (Option (List ℕ)) → List ℕ
 said (refused n vs) = padded answerSize (n ∷ vs)
 said (value none) = padded answerSize (0 ∷ 0 ∷ [])
 said (value (some ws)) = padded answerSize (0 ∷ 1 ∷ ws)
+
+-- whether there is a result: 0, then 1
+unfoldable pub answered : List ℕ → Bool
+answered ws = eqb (getD ws 0 0) 0 && eqb (getD ws 1 0) 1
 
 -- a result that is there unless it is refused, as words
 unfoldable pub always : {A : Type 0} → (A → List ℕ) → Outcome A → Outcome (Option (List ℕ))
@@ -72,9 +76,11 @@ numberOutcome number.None = value none
 pub record HandedOut (words output output′ answer : List ℕ) : Type 0 where
   pub says : answer ≡ said (always one (inRoom (length output) words))
   pub writes : output′ ≡ outputBy (value words) output
+  pub kept : answered answer ≡ false → output′ ≡ output
 
 -- our descriptions handed out, as words that read as them
 pub record OursSaid (output output′ answer : List ℕ) : Type 0 where
   pub words : List ℕ
   pub reads : readDescriptions words ≡ value ours
+  pub size : length words ≡ 91
   pub handed : HandedOut words output output′ answer

@@ -28,10 +28,10 @@ use Rattle.discovery.specs.Answers as tunnels
 use Rattle.discovery.specs.declared.TunnelsAnswer.{TunnelsAnswer}
 use Rattle.discovery.specs.declared.TunnelsAnswer.the-variants as list
 use Rattle.discoveries.specs.Calls.{DiscoverDone}
-use Rattle.answers.specs.Said.{padded, said, always, wordsIn, perhaps, one}
+use Rattle.answers.specs.Said.{answered, padded, said, always, wordsIn, perhaps, one}
 use Rattle.replies.specs.Replies.{hopsWords}
-use Rattle.export.specs.Exported.{answered, DumpSaid, TextSaid, WalkSaid, DiscoverSaid}
-use Rattle.export.proofs.Walks.{untrue, path-words, endless-said}
+use Rattle.export.specs.Exported.{DumpSaid, TextSaid, WalkSaid, DiscoverSaid}
+use Rattle.export.proofs.Walks.{untrue, path-words, endless-said, again-said}
 
 module _ (s scratch output : List ℕ) where
   dump-kept : (r : Dump) → answered (said (always one (dumpOutcome r))) ≡ false → (scratchAfter (dumpOutcome r) scratch ≡ scratch) × (outputAfter (dumpOutcome r) s output ≡ output)
@@ -85,6 +85,7 @@ module _ (t v : List ℕ) (s : Stand) (output : List ℕ) (r : WalkAnswer) (outp
         kept = λ q. d .kept (no-path r (ap answered (sym e) ∙ q));
         walks = rule;
         endless = λ x y l k. endless-said (wordsNeeded single) (length output) x s (λ hs. output′ ≡ withPath single hs output) (walkAnswer t v s (length output)) a counted (rule x y l k);
+        again = λ x y l k. again-said (wordsNeeded single) (length output) x s (λ hs. output′ ≡ withPath single hs output) (walkAnswer t v s (length output)) a counted (rule x y l k);
       }
 
 no-list : (r : TunnelsAnswer) → answered (said (perhaps one (tunnels.tunnelsOutcome r))) ≡ false → tunnels.isList r ≡ false

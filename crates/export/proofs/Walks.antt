@@ -11,7 +11,7 @@ use lib.ListN.{length, getD}
 use borrow.Author.Tests.{lt-ltb, ltb-false}
 use Rattle.refusal.specs.Outcome.{Outcome, refused, value, bind}
 use Rattle.tables.specs.Rows.{EntryRow, Rows}
-use Rattle.orbit.specs.Walk.{Spot, Spot.stand, Spot.ended, Spot.stopped, going, walkN, hopsN, Never}
+use Rattle.orbit.specs.Walk.{Spot, Spot.stand, Spot.ended, Spot.stopped, going, walkN, hopsN, Never, Again}
 use Rattle.walk.specs.Walking.{Stand, End, End.path, End.noPath, End.fault, walkOn, pathOf}
 use Rattle.walk.specs.Rule.{settled, inRoom, walkFault, WalkRule}
 use Rattle.path.specs.Words.{wordsNeeded}
@@ -19,28 +19,28 @@ use Rattle.path.proofs.Writing.{length-path-words}
 use Rattle.walks.specs.Calls.{single}
 use Rattle.answers.specs.Said.{padded, said, wordsIn, perhaps, one}
 use Rattle.replies.specs.Replies.{hopsWords}
-use Rattle.export.specs.Exported.{pathInRoom}
+use Rattle.export.specs.Exported.{pathSize}
 
 pub untrue : true ≡ false → ⊥
 untrue h = let z : _≡_ {A = ℕ} 1 0 = ap (λ b. cond b 1 0) h in omega (arith, z)
 
 -- words as the output has room for them are counted by 64 bits
-words-counted : (hs : List EntryRow) (room : ℕ) → room < 18446744073709551616 → wordsNeeded single hs ≤ room → hopsWords (length hs) ≡ one (wordsNeeded single hs)
-unfolding hopsWords one
+words-counted : (hs : List EntryRow) (room : ℕ) → room < 18446744073709551616 → wordsNeeded single hs ≤ room → hopsWords (length hs) ≡ pathSize (length hs)
+unfolding hopsWords pathSize
 words-counted hs room h k =
     let n = length-path-words single hs in
     let l = lt-ltb (length hs) 9223372036854775808 (omega (arith, n)) in
-    ap (λ b. cond b (1 + 2 * length hs) 0 ∷ []) l ∙ ap (λ w. w ∷ []) (sym n)
+    ap (λ b. cond b (1 + 2 * length hs) 0 ∷ []) l
 
 by-room : (hs : List EntryRow) (room : ℕ) → room < 18446744073709551616 → (b : Bool) → ltb room (wordsNeeded single hs) ≡ b
-    → perhaps hopsWords (cond b (refused 2 (wordsNeeded single hs ∷ [])) (value (some (length hs)))) ≡ perhaps one (cond b (refused 2 (wordsNeeded single hs ∷ [])) (value (some (wordsNeeded single hs))))
+    → perhaps hopsWords (cond b (refused 2 (wordsNeeded single hs ∷ [])) (value (some (length hs)))) ≡ perhaps pathSize (cond b (refused 2 (wordsNeeded single hs ∷ [])) (value (some (length hs))))
 unfolding perhaps wordsIn bind
 by-room hs room h true e = refl
 by-room hs room h false e = ap (λ ws. value (some ws)) (words-counted hs room h (omega (arith, ltb-false room (wordsNeeded single hs) e)))
 
 -- the words of a path by its number of hops
-pub path-words : (o : Outcome (Option (List EntryRow))) (room : ℕ) → room < 18446744073709551616 → perhaps hopsWords (bind o (inRoom (wordsNeeded single) room)) ≡ perhaps one (bind o (pathInRoom room))
-unfolding perhaps wordsIn bind inRoom pathInRoom
+pub path-words : (o : Outcome (Option (List EntryRow))) (room : ℕ) → room < 18446744073709551616 → perhaps hopsWords (bind o (inRoom (wordsNeeded single) room)) ≡ perhaps pathSize (bind o (inRoom (wordsNeeded single) room))
+unfolding perhaps wordsIn bind inRoom
 path-words (refused n vs) room h = refl
 path-words (value none) room h = refl
 path-words (value (some hs)) room h = by-room hs room h (ltb room (wordsNeeded single hs)) refl
@@ -93,3 +93,8 @@ module _ (need : List EntryRow → ℕ) (room : ℕ) where
             (w .bounded),
         λ n. first ∙ ap numberIn (w .never .1 n),
       )
+
+  pub again-said : (x : Rows) (s : Stand) (W : List EntryRow → Type 0) (o : Outcome (Option ℕ)) (a : List ℕ) → a ≡ said (perhaps hopsWords o) → WalkRule x s need room W o → (getD a 0 0 ≡ 13) ↔ Again (walkOn x) s
+  again-said x s W o a e w =
+      let k = endless-said x s W o a e w in
+      (λ h. w .again .0 (w .never .1 (k .0 h)), λ g. k .1 (w .never .0 (w .again .1 g)))
