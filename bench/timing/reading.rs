@@ -108,7 +108,7 @@ fn long(i: u32, length: usize) -> String {
 
 // ---- dumps --------------------------------------------------------------------------------
 
-/// A dump with as much room as its records need.
+/// A dump, and room for any dump so long, a word a byte; or exactly as much as its records need, which have to be counted then.
 pub struct Read<'a> {
     dump: &'a [u8],
     scratch: RefCell<Vec<u32>>,
@@ -117,8 +117,15 @@ pub struct Read<'a> {
 
 impl<'a> Read<'a> {
     pub fn of(dump: &'a [u8]) -> Self {
+        Self::with(dump, dump.len())
+    }
+
+    pub fn exactly(dump: &'a [u8]) -> Self {
         let records = |l: &&[u8]| Register::parse_debugfs(std::str::from_utf8(l).unwrap()).is_some();
-        let words = 4 * dump.split(|b| *b == b'\n').filter(records).count();
+        Self::with(dump, 4 * dump.split(|b| *b == b'\n').filter(records).count())
+    }
+
+    fn with(dump: &'a [u8], words: usize) -> Self {
         Read { dump, scratch: RefCell::new(vec![0; words]), output: RefCell::new(vec![0; words]) }
     }
 
@@ -172,16 +179,16 @@ fn dump(length: usize, order: fn(usize, usize) -> usize) -> String {
     out
 }
 
-fn time_dumps(rounds: usize, series: &str, order: fn(usize, usize) -> usize) {
+fn time_dumps(rounds: usize, series: &str, exact: bool, order: fn(usize, usize) -> usize) {
     for length in (10..=22).map(|n| 1 << n) {
         let dump = dump(length, order);
         assert_eq!(dump.len(), length);
         let path = PathBuf::from("dump");
         fs::write(&path, &dump).unwrap();
-        let read = Read::of(dump.as_bytes());
+        let read = if exact { Read::exactly(dump.as_bytes()) } else { Read::of(dump.as_bytes()) };
         let its = debugfs::read(&path, None, None).unwrap();
         assert_eq!(read.ours(), its.len(), "not so many records as in the Rust");
-        assert!(*read.output.borrow() == its_words(&its), "not the Rust's records");
+        assert!(read.output.borrow().starts_with(&its_words(&its)), "not the Rust's records");
         let tokens = dump.lines().map(|l| l.split_ascii_whitespace().count()).sum();
         assert_eq!(cuts(dump.as_bytes())[..2], [tokens, dump.lines().count()], "not the dump's tokens");
         row(
@@ -209,8 +216,9 @@ pub fn run(rounds: usize) {
     for length in (6..=12).map(|n| 1 << n) {
         time_lines(rounds, "long lines", length, |i| long(i, length));
     }
-    time_dumps(rounds, "offsets rise", |i, _| i);
-    time_dumps(rounds, "offsets fall", |i, count| count - 1 - i);
+    time_dumps(rounds, "offsets rise", false, |i, _| i);
+    time_dumps(rounds, "offsets rise, exact room", true, |i, _| i);
+    time_dumps(rounds, "offsets fall", false, |i, count| count - 1 - i);
     // An odd step that shares no factor with most counts.
-    time_dumps(rounds, "offsets mixed", |i, count| i * 7919 % count);
+    time_dumps(rounds, "offsets mixed", false, |i, count| i * 7919 % count);
 }

@@ -20,10 +20,10 @@ use text::TextAnswer;
 use util::Number;
 
 // Of a refusal by its number and one value.
-fn refused(number: u64, place: usize) -> [u64; 8]
-    ensures { λ r. ⌜ r ≡ said (refusal number (place ∷ [])) ⌝ }
+fn refused(number: u64, value: usize) -> [u64; 8]
+    ensures { λ r. ⌜ r ≡ said (refusal number (value ∷ [])) ⌝ }
 {
-    [number, place as u64, 0, 0, 0, 0, 0, 0]
+    [number, value as u64, 0, 0, 0, 0, 0, 0]
 }
 
 // A result of one number.
