@@ -115,7 +115,7 @@ int main(int argc, char **argv)
     say("tunnels_walk", walk);
     say("tunnels_discover", discover);
     for (size_t i = 0; i < RECORDS; i++)
-        memcpy(text + 8 * i, "0 0 0 0\n", 8);
+        memcpy(text + 8 * i, i == 0 ? "1 0 0 0\n" : "0 0 0 0\n", 8); /* out of order, so that they are sorted */
     say("tunnels_read_dump, 65536 records", read_dump);
     return too_much;
 }
