@@ -1,20 +1,16 @@
 -- The eight words in which an exported call says its answer. Assumes nothing.
 use Prim.Native.Nat.{ℕ, zero, suc}
-use mathlib.Core.Path.{_≡_}
-use mathlib.Core.Bool.{Bool, false, cond, _&&_}
+use mathlib.Core.Bool.{Bool, cond, _&&_}
 use mathlib.Core.List.{List, [], _∷_}
 use mathlib.Core.Option.{Option, none, some}
 use lib.Dec.{eqb}
-use lib.ListN.{length, getD}
+use lib.ListN.{getD}
 use Rattle.refusal.specs.Outcome.{Outcome, refused, value, bind}
 use Rattle.util.specs.Number.{hexNumber}
 use Rattle.util.specs.declared.Number.{Number}
 use Rattle.util.specs.declared.Number.the-variants as number
 use Rattle.register.specs.Line.{max16, max32}
 use Rattle.register.specs.declared.Register.{Register}
-use Rattle.description.specs.Rules.{readDescriptions}
-use Rattle.metadata.specs.Ours.{ours}
-use Rattle.text.specs.Text.{inRoom, outputBy}
 
 abbrev pub answerSize : ℕ
 answerSize = 8
@@ -71,16 +67,3 @@ hexOfBits bits s =
 unfoldable pub numberOutcome : Number → Outcome (Option ℕ)
 numberOutcome (number.Value v) = value (some v)
 numberOutcome number.None = value none
-
--- words handed out: 2 with the words needed where there is too little room, and then the output is as it was
-pub record HandedOut (words output output′ answer : List ℕ) : Type 0 where
-  pub says : answer ≡ said (always one (inRoom (length output) words))
-  pub writes : output′ ≡ outputBy (value words) output
-  pub kept : answered answer ≡ false → output′ ≡ output
-
--- our descriptions handed out, as words that read as them
-pub record OursSaid (output output′ answer : List ℕ) : Type 0 where
-  pub words : List ℕ
-  pub reads : readDescriptions words ≡ value ours
-  pub size : length words ≡ 91
-  pub handed : HandedOut words output output′ answer

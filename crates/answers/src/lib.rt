@@ -1,20 +1,13 @@
-// What the exported calls answer, in eight words: the calls on numbers, lines, dumps, words and texts.
+// What the exported calls answer, in eight words: the calls on numbers, lines, dumps and texts.
 ghost use mathlib.Core.Path.{_≡_};
-ghost use Prim.Native.Nat.{_≤_};
-ghost use mathlib.Core.List.{[], _∷_, _++_};
-ghost use lib.ListN.{length, drop};
+ghost use mathlib.Core.List.{[], _∷_};
 ghost use mathlib.Core.Option.{some};
 ghost use Rattle.refusal.specs.Outcome.{refused as refusal, value};
 ghost use Rattle.register.specs.Line.{lineOutcome};
 ghost use Rattle.dump.specs.Dump.{dumpOutcome};
-ghost use Rattle.description.specs.Rules.{checkedOutcome};
-ghost use Rattle.survey.specs.Rules.{checkedOutcome as surveyOutcome};
-ghost use Rattle.metadata.specs.Calls.{describedOutcome, fieldOutcome};
 ghost use Rattle.text.specs.Text.{textOutcome};
-ghost use Rattle.answers.specs.Said.{HandedOut, OursSaid, said, always, perhaps, one, bare, registerWords, hexOfBits, numberOutcome};
+ghost use Rattle.answers.specs.Said.{said, always, perhaps, one, registerWords, hexOfBits, numberOutcome};
 use dump::Dump;
-use metadata::Described;
-use metadata::FieldValue;
 use register::Line;
 use text::TextAnswer;
 use util::Number;
@@ -90,48 +83,6 @@ pub fn dump(answer: Dump) -> [u64; 8]
     }
 }
 
-// Whether description words are well formed.
-pub fn descriptions(answer: description::Checked) -> [u64; 8]
-    ensures { λ r. ⌜ r ≡ said (always bare (checkedOutcome answer)) ⌝ }
-{
-    match answer {
-        description::Checked::WellFormed => [0, 1, 0, 0, 0, 0, 0, 0],
-        description::Checked::Refused(p) => refused(3, p),
-    }
-}
-
-// Whether survey words are well formed.
-pub fn survey(answer: survey::Checked) -> [u64; 8]
-    ensures { λ r. ⌜ r ≡ said (always bare (surveyOutcome answer)) ⌝ }
-{
-    match answer {
-        survey::Checked::WellFormed => [0, 1, 0, 0, 0, 0, 0, 0],
-        survey::Checked::Refused(p) => refused(4, p),
-    }
-}
-
-// The head place of the group that names a register, or none.
-pub fn described(answer: Described) -> [u64; 8]
-    ensures { λ r. ⌜ r ≡ said (perhaps one (describedOutcome answer)) ⌝ }
-{
-    match answer {
-        Described::Group(p) => result(p as u64),
-        Described::Nameless => [0; 8],
-        Described::Refused(p) => refused(3, p),
-    }
-}
-
-// A field's value.
-pub fn field(answer: FieldValue) -> [u64; 8]
-    ensures { λ r. ⌜ r ≡ said (always one (fieldOutcome answer)) ⌝ }
-{
-    match answer {
-        FieldValue::Value(v) => result(v as u64),
-        FieldValue::Refused(p) => refused(3, p),
-        FieldValue::NoField => [6, 0, 0, 0, 0, 0, 0, 0],
-    }
-}
-
 // The number of a text's survey words.
 pub fn text(answer: TextAnswer) -> [u64; 8]
     ensures { λ r. ⌜ r ≡ said (always one (textOutcome answer)) ⌝ }
@@ -142,35 +93,4 @@ pub fn text(answer: TextAnswer) -> [u64; 8]
         TextAnswer::NotAscii(p) => refused(1, p),
         TextAnswer::Wrong(p) => refused(4, p),
     }
-}
-
-// Puts all words of a list at the front of another that has room for them.
-fn copy(from: &[u32], to: &mut [u32])
-    requires { ⌜ length (now from) ≤ length (now to) ⌝ }
-    ensures { λ r. ⌜ now (to .exit) ≡ now (from .entry) ++ drop (length (now (from .entry))) (now (to .entry)) ⌝ }
-{
-    let mut i: usize = 0;
-    while i < from.len() {
-        to[i] = from[i];
-        i += 1;
-    }
-}
-
-// Puts all words of a list at the front of another, if it has room for them, and says how many there are.
-fn put(from: &[u32], to: &mut [u32]) -> [u64; 8]
-    ensures { λ r. ⌜ HandedOut (now (from .entry)) (now (to .entry)) (now (to .exit)) r ⌝ }
-{
-    if to.len() < from.len() {
-        return refused(2, from.len());
-    }
-    copy(from, to);
-    result(from.len() as u64)
-}
-
-// Our descriptions, put at the front of the output.
-pub fn our_descriptions(output: &mut [u32]) -> [u64; 8]
-    ensures { λ r. ⌜ OursSaid (now (output .entry)) (now (output .exit)) r ⌝ }
-{
-    let ours = metadata::ours();
-    put(&ours, output)
 }

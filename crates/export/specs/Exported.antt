@@ -1,4 +1,4 @@
--- The complete outcomes of the exported calls that write into lent buffers (of our descriptions: answers/specs/Said.antt); `answer` is what the call says, and no lent buffer. Assumes nothing.
+-- The complete outcomes of the exported calls that write into lent buffers (of our descriptions: lookups/specs/Handed.antt); `answer` is what the call says, and no lent buffer. Assumes nothing.
 use Prim.Native.Nat.{ℕ, _+_, _*_}
 use mathlib.Core.Path.{_≡_}
 use mathlib.Core.Logic.{_↔_}

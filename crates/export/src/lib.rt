@@ -9,7 +9,8 @@ ghost use Rattle.acceptance.specs.Accepted.{acceptedAnswer};
 ghost use Rattle.adapters.specs.Calls.{adapterAnswer, speedAnswer, maxHopAnswer};
 ghost use Rattle.parents.specs.Parents.{parentAnswer};
 ghost use Rattle.walk.specs.Walking.{Stand};
-ghost use Rattle.answers.specs.Said.{said, always, perhaps, one, bare, registerWords, hexOfBits, numberOutcome, OursSaid};
+ghost use Rattle.answers.specs.Said.{said, always, perhaps, one, bare, registerWords, hexOfBits, numberOutcome};
+ghost use Rattle.lookups.specs.Handed.{OursSaid};
 ghost use Rattle.replies.specs.Replies.{countsWords, infoWords, speedWords};
 ghost use Rattle.export.specs.Exported.{DumpSaid, TextSaid, WalkSaid, DiscoverSaid};
 use naming::Sought;
@@ -51,7 +52,7 @@ pub extern "C" fn tunnels_read_dump(
 pub extern "C" fn tunnels_check_descriptions(words: &[u32], answer: &mut [u64; 8])
     ensures { λ _. ⌜ now (answer .exit) ≡ said (always bare (checkOf (now (words .entry)))) ⌝ }
 {
-    let a = answers::descriptions(description::check(words));
+    let a = lookups::descriptions(description::check(words));
     *answer = a;
 }
 
@@ -60,7 +61,7 @@ pub extern "C" fn tunnels_check_descriptions(words: &[u32], answer: &mut [u64; 8
 pub extern "C" fn tunnels_check_survey(words: &[u32], answer: &mut [u64; 8])
     ensures { λ _. ⌜ now (answer .exit) ≡ said (always bare (surveyCheck (now (words .entry)))) ⌝ }
 {
-    let a = answers::survey(wellformed::check(words));
+    let a = lookups::survey(wellformed::check(words));
     *answer = a;
 }
 
@@ -84,7 +85,7 @@ pub extern "C" fn tunnels_describe(
         cap: cap_id,
         vs: vs_id,
     };
-    let a = answers::described(metadata::describe(descriptions, q));
+    let a = lookups::described(metadata::describe(descriptions, q));
     *answer = a;
 }
 
@@ -99,7 +100,7 @@ pub extern "C" fn tunnels_field(
 )
     ensures { λ _. ⌜ now (answer .exit) ≡ said (always one (fieldAnswer (now (descriptions .entry)) place value (now (name .entry)))) ⌝ }
 {
-    let a = answers::field(metadata::field(descriptions, place, value, name));
+    let a = lookups::field(metadata::field(descriptions, place, value, name));
     *answer = a;
 }
 
@@ -218,6 +219,6 @@ pub extern "C" fn tunnels_text(text: &[u8], output: &mut [u32], answer: &mut [u6
 pub extern "C" fn tunnels_our_descriptions(output: &mut [u32], answer: &mut [u64; 8])
     ensures { λ _. ⌜ OursSaid (now (output .entry)) (now (output .exit)) (now (answer .exit)) ⌝ }
 {
-    let a = answers::our_descriptions(output);
+    let a = lookups::our_descriptions(output);
     *answer = a;
 }

@@ -10,7 +10,8 @@ use lib.Seq.{take-all}
 use borrow.Author.Tests.{lt-ltb, le-ltb}
 use Rattle.refusal.specs.Outcome.{refused, value, bind}
 use Rattle.text.specs.Text.{inRoom, outputBy}
-use Rattle.answers.specs.Said.{padded, said, answered, always, one, HandedOut}
+use Rattle.answers.specs.Said.{padded, said, answered, always, one}
+use Rattle.lookups.specs.Handed.{HandedOut}
 
 pub all-copied : (d s : List ℕ) (i : ℕ) → i ≡ length s → take i s ++ drop i d ≡ s ++ drop (length s) d
 all-copied d s i e = ap (λ n. take n s ++ drop n d) e ∙ ap (λ l. l ++ drop (length s) d) (take-all (length s) s (omega arith))

@@ -1,37 +1,31 @@
--- `answers::field` meets its contract.
-use mathlib.Core.Path.{sym, ap, _∙_}
+-- `lookups::field` meets its contract.
+use mathlib.Core.Path.{sym, ap}
 use Rattle.metadata.specs.Calls.{fieldOutcome}
 use Rattle.refusal.specs.Outcome.{bind}
 use Rattle.answers.specs.Said.{said, padded, always, one}
 use borrow.Author.Needs.{needs}
-use Rattle.answers.proofs.field.Statement.{statement}
-use Rattle.answers.proofs.field.Tie as tie
+use Rattle.lookups.proofs.field.Statement.{statement}
+use Rattle.lookups.proofs.field.Tie as tie
 
 enum-known-answer : tie.Need-enum-known-answer
 enum-known-answer c = search needs
 
-cast-result : tie.Need-cast-result
-cast-result c = search needs
-
-result-requires : tie.Need-result-requires
-result-requires c κs = search needs
+cast-t5 : tie.Need-cast-t5
+cast-t5 c = search needs
 
 enum-known-answer-2 : tie.Need-enum-known-answer-2
 enum-known-answer-2 c = search needs
-
-refused-requires : tie.Need-refused-requires
-refused-requires c κs = search needs
 
 enum-told : tie.Need-enum-told
 enum-told c = search needs
 
 returns : tie.Need-returns
 unfolding said padded always one fieldOutcome bind
-returns c = (c .result .ensures) ∙ sym (ap (λ a. said (always one (fieldOutcome a))) (c .before .before .answer .given .1))
+returns c = sym (ap (λ a. said (always one (fieldOutcome a))) (c .before .answer .given .1))
 
 returns-2 : tie.Need-returns-2
 unfolding said padded always one fieldOutcome bind
-returns-2 c = (c .refused .ensures) ∙ sym (ap (λ a. said (always one (fieldOutcome a))) (c .before .before .answer2 .given .1))
+returns-2 c = sym (ap (λ a. said (always one (fieldOutcome a))) (c .before .answer2 .given .1))
 
 returns-3 : tie.Need-returns-3
 unfolding said padded always one fieldOutcome bind
@@ -42,10 +36,8 @@ field-spec =
     tie.close
     (tie.spec
     enum-known-answer
-    cast-result
-    result-requires
+    cast-t5
     enum-known-answer-2
-    refused-requires
     enum-told
     returns
     returns-2

@@ -1,4 +1,4 @@
--- `answers::copy` meets its contract.
+-- `lookups::copy` meets its contract.
 use lib.ListN.{getD}
 use Prim.Native.Nat.{_≤_, _-_}
 use native.Mathlib.Omega.{arith}
@@ -8,9 +8,9 @@ use lib.ListN.{length, take, drop, set, length-set, drop-of-length-le}
 use lib.Seq.{take-all}
 use denote.Ref.{now}
 use Rattle.dump.proofs.Groups.{copied-more}
-use Rattle.answers.proofs.Laws.{all-copied}
-use Rattle.answers.proofs.copy.Statement.{statement}
-use Rattle.answers.proofs.copy.Tie as tie
+use Rattle.lookups.proofs.Laws.{all-copied}
+use Rattle.lookups.proofs.copy.Statement.{statement}
+use Rattle.lookups.proofs.copy.Tie as tie
 
 abbrev Inv-loop : tie.InvT-loop
 Inv-loop from to₀ i₀ to i = (i ≤ length from) × (length to ≡ length to₀) × (to ≡ take i from ++ drop i to₀)
