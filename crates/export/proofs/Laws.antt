@@ -2,7 +2,7 @@
 use Prim.Native.Nat.{ℕ, _<_}
 use native.Mathlib.Omega.{arith}
 use mathlib.Core.Path.{_≡_, refl, sym, ap, _∙_, subst}
-use mathlib.Core.Bool.{Bool, true, false, cond}
+use mathlib.Core.Bool.{Bool, true, false, cond, true≢false}
 use mathlib.Core.List.{List, [], _∷_, _++_}
 use mathlib.Core.Option.{Option, none, some}
 use lib.Dec.{ltb}
@@ -29,14 +29,14 @@ use Rattle.discovery.specs.declared.TunnelsAnswer.{TunnelsAnswer}
 use Rattle.discovery.specs.declared.TunnelsAnswer.the-variants as list
 use Rattle.discoveries.specs.Calls.{DiscoverDone}
 use Rattle.answers.specs.Said.{answered, padded, said, always, wordsIn, perhaps, one}
-use Rattle.replies.specs.Replies.{hopsWords}
+use Rattle.replies.specs.Replies.{hopCountWords}
 use Rattle.export.specs.Exported.{DumpSaid, TextSaid, WalkSaid, DiscoverSaid}
-use Rattle.export.proofs.Walks.{untrue, path-words, endless-said, again-said}
+use Rattle.export.proofs.Walks.{path-words, endless-said, again-said}
 
 module _ (s scratch output : List ℕ) where
   dump-kept : (r : Dump) → answered (said (always one (dumpOutcome r))) ≡ false → (scratchAfter (dumpOutcome r) scratch ≡ scratch) × (outputAfter (dumpOutcome r) s output ≡ output)
   unfolding answered said padded always one bind dumpOutcome scratchAfter outputAfter
-  dump-kept (dump.Records n) h = absurd (untrue h)
+  dump-kept (dump.Records n) h = absurd (true≢false h)
   dump-kept (dump.NotAscii p) h = (refl, refl)
   dump-kept (dump.Short w) h = (refl, refl)
 
@@ -51,7 +51,7 @@ module _ (s scratch output : List ℕ) where
 in-room : (n : ℕ) (new old : List ℕ) (b : Bool) → answered (said (always one (cond b (refused 2 (n ∷ [])) (value n)))) ≡ false → cond b old new ≡ old
 unfolding answered said padded always one bind
 in-room n new old true h = refl
-in-room n new old false h = absurd (untrue h)
+in-room n new old false h = absurd (true≢false h)
 
 text-kept : (o : Outcome (List ℕ)) (output : List ℕ) → answered (said (always one (bind o (text.inRoom (length output))))) ≡ false → text.outputBy o output ≡ output
 unfolding bind text.inRoom text.outputBy
@@ -63,9 +63,9 @@ text-said t output r output′ a d e =
     let says = e ∙ ap (λ o. said (always one o)) (d .answers) in
     record { says = says; writes = d .writes; kept = λ h. d .writes ∙ text-kept (text.surveyOf t) output (ap answered (sym says) ∙ h) }
 
-no-path : (r : WalkAnswer) → answered (said (perhaps hopsWords (walkOutcome r))) ≡ false → isPath r ≡ false
-unfolding answered said padded perhaps wordsIn hopsWords bind walkOutcome isPath
-no-path (walk.Path n) h = absurd (untrue h)
+no-path : (r : WalkAnswer) → answered (said (perhaps hopCountWords (walkOutcome r))) ≡ false → isPath r ≡ false
+unfolding answered said padded perhaps wordsIn hopCountWords bind walkOutcome isPath
+no-path (walk.Path n) h = absurd (true≢false h)
 no-path walk.Absent h = refl
 no-path (walk.Short n) h = refl
 no-path (walk.Refused f) h = refl
@@ -75,10 +75,10 @@ module _ (t v : List ℕ) (s : Stand) (output : List ℕ) (r : WalkAnswer) (outp
       → WalkRule x s (wordsNeeded single) (length output) (λ hs. output′ ≡ withPath single hs output) (walkAnswer t v s (length output))
   rule x y l k = subst (λ o. WalkRule x s (wordsNeeded single) (length output) (λ hs. output′ ≡ withPath single hs output) o) (d .answers) (d .walks x y l k)
 
-  pub walk-said : (a : List ℕ) → length output < 18446744073709551616 → a ≡ said (perhaps hopsWords (walkOutcome r)) → WalkSaid t v s output output′ a
+  pub walk-said : (a : List ℕ) → length output < 18446744073709551616 → a ≡ said (perhaps hopCountWords (walkOutcome r)) → WalkSaid t v s output output′ a
   unfolding walkAnswer
   walk-said a h e =
-      let counted = e ∙ ap (λ o. said (perhaps hopsWords o)) (d .answers) in
+      let counted = e ∙ ap (λ o. said (perhaps hopCountWords o)) (d .answers) in
       record {
         says = counted ∙ ap said (path-words (pathAnswer t v s) (length output) h);
         writes = d .writes;
@@ -90,7 +90,7 @@ module _ (t v : List ℕ) (s : Stand) (output : List ℕ) (r : WalkAnswer) (outp
 
 no-list : (r : TunnelsAnswer) → answered (said (perhaps one (tunnels.tunnelsOutcome r))) ≡ false → tunnels.isList r ≡ false
 unfolding answered said padded perhaps wordsIn one bind tunnels.tunnelsOutcome tunnels.isList
-no-list (list.Words n) h = absurd (untrue h)
+no-list (list.Words n) h = absurd (true≢false h)
 no-list list.Absent h = refl
 no-list (list.Short n) h = refl
 no-list (list.Refused f) h = refl

@@ -2,7 +2,7 @@
 use Prim.Native.Nat.{ℕ, _≤_, _<_}
 use native.Mathlib.Omega.{arith}
 use mathlib.Core.Path.{_≡_, refl, ap, sym, _∙_}
-use mathlib.Core.Bool.{true, false, cond}
+use mathlib.Core.Bool.{true, false, true≢false}
 use mathlib.Core.List.{List, [], _∷_, _++_}
 use mathlib.Core.Option.{some}
 use lib.ListN.{length, take, drop}
@@ -15,9 +15,6 @@ use Rattle.lookups.specs.Handed.{HandedOut}
 
 pub all-copied : (d s : List ℕ) (i : ℕ) → i ≡ length s → take i s ++ drop i d ≡ s ++ drop (length s) d
 all-copied d s i e = ap (λ n. take n s ++ drop n d) e ∙ ap (λ l. l ++ drop (length s) d) (take-all (length s) s (omega arith))
-
-untrue : true ≡ false → ⊥
-untrue h = let z : _≡_ {A = ℕ} 1 0 = ap (λ b. cond b 1 0) h in omega (arith, z)
 
 result-answered : (n : ℕ) → answered (said (value (some (one n)))) ≡ true
 unfolding answered said padded one
@@ -37,4 +34,4 @@ module _ (words output a : List ℕ) where
   all-handed h output′ wrote f =
       let l = le-ltb (length output) (length words) h in
       let room : inRoom (length output) words ≡ value (length words) = simp l in
-      record { says = f ∙ sym (ap (λ o. said (always one o)) room); writes = wrote ∙ sym (simp l); kept = λ q. absurd (untrue (sym (result-answered (length words)) ∙ ap answered (sym f) ∙ q)) }
+      record { says = f ∙ sym (ap (λ o. said (always one o)) room); writes = wrote ∙ sym (simp l); kept = λ q. absurd (true≢false (sym (result-answered (length words)) ∙ ap answered (sym f) ∙ q)) }

@@ -16,9 +16,10 @@ use Rattle.load.specs.declared.Refusal.the-variants as refusal
 use Rattle.load.proofs.Result.{refused-bind}
 use Rattle.refusals.specs.Told.{noRefusal, valuesOf, refusedAs}
 use Rattle.refusals.specs.declared.Numbers.{Numbers}
+use Rattle.text.specs.Text.{bit}
 use Rattle.adapters.specs.Calls.{Info}
 use Rattle.answers.specs.Said.{padded, said, always, wordsIn, perhaps}
-use Rattle.replies.specs.Replies.{bit, hopOr, infoWords}
+use Rattle.replies.specs.Replies.{hopOr, infoWords}
 
 -- a refusal stays what it is, whatever its result would have been
 pub always-refused : {A : Type 0} (f : A → List ℕ) (r : Refusal) → said (refusedBy r) ≡ said (always f (refusedBy r))

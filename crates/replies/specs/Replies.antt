@@ -1,21 +1,18 @@
 -- The results of the exported calls on a survey, as words. Assumes nothing.
 use Prim.Native.Nat.{ℕ, _+_, _*_}
-use mathlib.Core.Bool.{Bool, true, false, cond}
+use mathlib.Core.Bool.{cond}
 use mathlib.Core.List.{List, [], _∷_}
 use mathlib.Core.Option.{Option, none, some}
 use lib.Dec.{ltb}
 use Rattle.usb4.specs.Numbers.{typeNumber, stateNumber, speedNumber}
 use Rattle.usb4.specs.declared.Speed.{Speed}
+use Rattle.text.specs.Text.{bit}
 use Rattle.acceptance.specs.Accepted.{Counts}
 use Rattle.adapters.specs.Calls.{Info}
 
 -- devices, valid entries
 unfoldable pub countsWords : Counts → List ℕ
 countsWords c = (c .devices) ∷ (c .entries) ∷ []
-
-unfoldable pub bit : Bool → ℕ
-bit true = 1
-bit false = 0
 
 -- a least HopID; 65,536 says that there is none, since no HopID is so large
 unfoldable pub hopOr : Option ℕ → ℕ
@@ -30,5 +27,5 @@ unfoldable pub speedWords : Speed → List ℕ
 speedWords s = speedNumber s ∷ []
 
 -- the words of a path of n hops, a head and two words a hop; 0 where 64 bits can't hold them, which is no path's number
-unfoldable pub hopsWords : ℕ → List ℕ
-hopsWords n = cond (ltb n 9223372036854775808) (1 + 2 * n) 0 ∷ []
+unfoldable pub hopCountWords : ℕ → List ℕ
+hopCountWords n = cond (ltb n 9223372036854775808) (1 + 2 * n) 0 ∷ []

@@ -10,8 +10,9 @@ ghost use Rattle.load.specs.Answers.{refusedBy};
 ghost use Rattle.parents.specs.Parents.{parentOutcome};
 ghost use Rattle.path.specs.Put.{walkOutcome};
 ghost use Rattle.discovery.specs.Answers.{tunnelsOutcome};
+ghost use Rattle.text.specs.Text.{bit as bitOf};
 ghost use Rattle.answers.specs.Said.{said, always, perhaps, one};
-ghost use Rattle.replies.specs.Replies.{bit as bitOf, hopOr, countsWords, infoWords, speedWords, hopsWords};
+ghost use Rattle.replies.specs.Replies.{hopOr, countsWords, infoWords, speedWords, hopCountWords};
 use acceptance::Acceptance;
 use adapter::HopFound;
 use adapters::AdapterAnswer;
@@ -146,7 +147,7 @@ pub fn parent(answer: ParentAnswer) -> [u64; 8]
 
 // The words of a path of so many hops.
 fn words_of(hops: usize) -> u64
-    ensures { λ r. ⌜ one r ≡ hopsWords hops ⌝ }
+    ensures { λ r. ⌜ one r ≡ hopCountWords hops ⌝ }
 {
     if hops < 9223372036854775808 {
         return 1 + 2 * (hops as u64);
@@ -156,7 +157,7 @@ fn words_of(hops: usize) -> u64
 
 // The words of a path, or none.
 pub fn walk(answer: WalkAnswer) -> [u64; 8]
-    ensures { λ r. ⌜ r ≡ said (perhaps hopsWords (walkOutcome answer)) ⌝ }
+    ensures { λ r. ⌜ r ≡ said (perhaps hopCountWords (walkOutcome answer)) ⌝ }
 {
     match answer {
         WalkAnswer::Path(n) => result(words_of(n)),

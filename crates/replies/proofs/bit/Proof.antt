@@ -1,6 +1,6 @@
 -- `replies::bit` meets its contract.
 use mathlib.Core.Path.{sym, ap}
-use Rattle.replies.specs.Replies.{bit}
+use Rattle.text.specs.Text.{bit}
 use Rattle.replies.proofs.bit.Statement.{statement}
 use Rattle.replies.proofs.bit.Tie as tie
 

@@ -4,7 +4,7 @@ use mathlib.Core.Option.{some}
 use Rattle.refusal.specs.Outcome.{value, bind}
 use Rattle.path.specs.Put.{walkOutcome}
 use Rattle.answers.specs.Said.{said, padded, wordsIn, perhaps}
-use Rattle.replies.specs.Replies.{hopsWords}
+use Rattle.replies.specs.Replies.{hopCountWords}
 use Rattle.replies.proofs.Laws.{perhaps-refused}
 use borrow.Author.Needs.{needs}
 use Rattle.replies.proofs.walk.Statement.{statement}
@@ -35,20 +35,20 @@ refused-requires : tie.Need-refused-requires
 refused-requires c κs = search needs
 
 returns : tie.Need-returns
-unfolding said padded bind perhaps wordsIn hopsWords walkOutcome
-returns c = (c .result .ensures) ∙ ap (λ ws. said (value (some ws))) (c .before .words-of .ensures) ∙ sym (ap (λ a. said (perhaps hopsWords (walkOutcome a))) (c .before .before .before .answer .given .1))
+unfolding said padded bind perhaps wordsIn hopCountWords walkOutcome
+returns c = (c .result .ensures) ∙ ap (λ ws. said (value (some ws))) (c .before .words-of .ensures) ∙ sym (ap (λ a. said (perhaps hopCountWords (walkOutcome a))) (c .before .before .before .answer .given .1))
 
 returns-2 : tie.Need-returns-2
-unfolding said padded bind perhaps wordsIn hopsWords walkOutcome
-returns-2 c = sym (ap (λ a. said (perhaps hopsWords (walkOutcome a))) (c .enum-told .given .1))
+unfolding said padded bind perhaps wordsIn hopCountWords walkOutcome
+returns-2 c = sym (ap (λ a. said (perhaps hopCountWords (walkOutcome a))) (c .enum-told .given .1))
 
 returns-3 : tie.Need-returns-3
-unfolding said padded bind perhaps wordsIn hopsWords walkOutcome
-returns-3 c = (c .short .ensures) ∙ sym (ap (λ a. said (perhaps hopsWords (walkOutcome a))) (c .before .before .answer2 .given .1))
+unfolding said padded bind perhaps wordsIn hopCountWords walkOutcome
+returns-3 c = (c .short .ensures) ∙ sym (ap (λ a. said (perhaps hopCountWords (walkOutcome a))) (c .before .before .answer2 .given .1))
 
 returns-4 : tie.Need-returns-4
-unfolding said padded bind perhaps wordsIn hopsWords walkOutcome
-returns-4 c = (c .refused .ensures) ∙ perhaps-refused hopsWords _ ∙ sym (ap (λ a. said (perhaps hopsWords (walkOutcome a))) (c .before .before .answer3 .given .1))
+unfolding said padded bind perhaps wordsIn hopCountWords walkOutcome
+returns-4 c = (c .refused .ensures) ∙ perhaps-refused hopCountWords _ ∙ sym (ap (λ a. said (perhaps hopCountWords (walkOutcome a))) (c .before .before .answer3 .given .1))
 
 pub walk-spec : {M : Type 1} → statement M
 walk-spec =

@@ -2,7 +2,7 @@
 use mathlib.Core.Path.{sym}
 use borrow.Author.Tests.{lt-ltb, le-ltb}
 use Rattle.answers.specs.Said.{one}
-use Rattle.replies.specs.Replies.{hopsWords}
+use Rattle.replies.specs.Replies.{hopCountWords}
 use borrow.Author.Needs.{needs}
 use Rattle.replies.proofs.words_of.Statement.{statement}
 use Rattle.replies.proofs.words_of.Tie as tie
@@ -14,11 +14,11 @@ add-result : tie.Need-add-result
 add-result c = search needs
 
 returns : tie.Need-returns
-unfolding one hopsWords
+unfolding one hopCountWords
 returns c = sym (simp (lt-ltb _ _ (c .if1 .taken)))
 
 returns-2 : tie.Need-returns-2
-unfolding one hopsWords
+unfolding one hopCountWords
 returns-2 c = sym (simp (le-ltb _ _ (c .if1 .left)))
 
 pub words-of-spec : {M : Type 1} → statement M
