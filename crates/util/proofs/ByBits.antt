@@ -1,27 +1,41 @@
 -- A digit by its bits is the digit: a test at each byte, which antt computes. Assumes nothing.
-use Prim.Native.Nat.{ℕ, _+_, _*_, _/_, _%_, _^_, _<_}
-use mathlib.Core.Path.{_≡_, sym, ap, _∙_}
-use mathlib.Core.Bool.{Bool, cond}
-use mathlib.Core.List.{List}
-use lib.Dec.{eqb, eqb→eq}
-use lib.ListN.{length, replicate}
-use borrow.Author.Tests.{eq-eqb, ne-eqb}
+use Prim.Native.Nat.{ℕ, zero, suc, _+_, _*_, _/_, _%_, _^_, _<_}
+use native.Mathlib.Omega.{arith}
+use native.Mathlib.Decide.{decLt}
+use mathlib.Core.Path.{_≡_, refl, sym, ap, _∙_}
+use mathlib.Core.Bool.{Bool, true, false, cond, false≢true}
+use lib.Dec.{eqb}
+use borrow.Author.Tests.{eq-eqb, ne-eqb, eqb-true}
 use Rattle.util.specs.Number.{digitOf}
 use Rattle.util.specs.Work.{digitBits}
-use Rattle.util.proofs.Table.{at}
 
 unfoldable byBits : ℕ → ℕ
 byBits b = cond (eqb (digitBits b / 2 ^ (b % 64) % 2) 1) (b % 16 + 9 * (b / 64)) 16
 
-unfoldable right : ℕ → ℕ → Bool
-right k x = eqb (byBits k) (digitOf k)
+-- a test that passes at each number below n
+unfoldable passes : (ℕ → Bool) → ℕ → Bool
+passes f zero = true
+passes f (suc n) = cond (f n) (passes f n) false
 
-unfoldable bytes : List ℕ
-bytes = replicate 256 0
+passed : (f : ℕ → Bool) (n : ℕ) → passes f n ≡ true → (k : ℕ) → k < n → f k ≡ true
+unfolding passes
+passed f zero e k h = absurd (omega (arith, h))
+passed f (suc n) e k h = go (f n) refl e (λ z. passed f n z k)
+  where
+    go : (b : Bool) → f n ≡ b → cond b (passes f n) false ≡ true → (passes f n ≡ true → k < n → f k ≡ true) → f k ≡ true
+    go false g z later = absurd (false≢true z)
+    go true g z later = at (decLt k n)
+      where
+        at : Dec (k < n) → f k ≡ true
+        at (yes l) = later z l
+        at (no l) = ap f (let q : k ≡ n = omega arith in q) ∙ g
+
+unfoldable right : ℕ → Bool
+right k = eqb (byBits k) (digitOf k)
 
 by-bits : (b : ℕ) → b < 256 → byBits b ≡ digitOf b
-unfolding byBits right bytes digitBits digitOf
-by-bits b h = eqb→eq (byBits b) (digitOf b) (at right bytes tt b h)
+unfolding byBits right passes digitBits digitOf
+by-bits b h = eqb-true (byBits b) (digitOf b) (passed right 256 refl b h)
 
 module _ (b : ℕ) (h : b < 256) (k : ℕ) (e : k ≡ b) (m : ℕ) (f : m ≡ digitBits b) where
   tested : digitBits b / 2 ^ (b % 64) % 2 ≡ m / 2 ^ (k % 64) % 2
