@@ -29,7 +29,7 @@ use Rattle.discovery.specs.declared.TunnelsAnswer.{TunnelsAnswer}
 use Rattle.discovery.specs.declared.TunnelsAnswer.the-variants as list
 use Rattle.discoveries.specs.Calls.{DiscoverDone}
 use Rattle.answers.specs.Said.{answered, padded, said, always, wordsIn, perhaps, one}
-use Rattle.replies.specs.Replies.{hopCountWords}
+use Rattle.findings.specs.Findings.{hopCountWords}
 use Rattle.export.specs.Exported.{DumpSaid, TextSaid, WalkSaid, DiscoverSaid}
 use Rattle.export.proofs.Walks.{path-words, endless-said, again-said}
 

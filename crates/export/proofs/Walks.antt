@@ -18,7 +18,7 @@ use Rattle.path.specs.Words.{wordsNeeded}
 use Rattle.path.proofs.Writing.{length-path-words}
 use Rattle.walks.specs.Calls.{single}
 use Rattle.answers.specs.Said.{padded, said, wordsIn, perhaps, one}
-use Rattle.replies.specs.Replies.{hopCountWords}
+use Rattle.findings.specs.Findings.{hopCountWords}
 use Rattle.export.specs.Exported.{pathSize}
 
 -- words as the output has room for them are counted by 64 bits

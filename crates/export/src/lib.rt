@@ -168,7 +168,7 @@ pub extern "C" fn tunnels_parent(
 )
     ensures { λ _. ⌜ now (answer .exit) ≡ said (perhaps one (parentAnswer (now (descriptions .entry)) (now (survey .entry)) place)) ⌝ }
 {
-    let a = replies::parent(parents::parent_from(descriptions, survey, place));
+    let a = findings::parent(parents::parent_from(descriptions, survey, place));
     *answer = a;
 }
 
@@ -185,7 +185,7 @@ pub extern "C" fn tunnels_walk(
 )
     ensures { λ _. ⌜ WalkSaid (now (descriptions .entry)) (now (survey .entry)) (record { place = place; adapter = adapter; hopId = hop }) (now (output .entry)) (now (output .exit)) (now (answer .exit)) ⌝ }
 {
-    let a = replies::walk(walks::discover_path(descriptions, survey, place, adapter, hop, output));
+    let a = findings::walk(walks::discover_path(descriptions, survey, place, adapter, hop, output));
     *answer = a;
 }
 
@@ -201,7 +201,7 @@ pub extern "C" fn tunnels_discover(
 )
     ensures { λ _. ⌜ DiscoverSaid (now (descriptions .entry)) (now (survey .entry)) place adapter (now (output .entry)) (now (output .exit)) (now (answer .exit)) ⌝ }
 {
-    let a = replies::tunnels(discoveries::discover(descriptions, survey, place, adapter, output));
+    let a = findings::tunnels(discoveries::discover(descriptions, survey, place, adapter, output));
     *answer = a;
 }
 

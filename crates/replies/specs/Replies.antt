@@ -1,9 +1,7 @@
--- The results of the exported calls on a survey, as words. Assumes nothing.
-use Prim.Native.Nat.{ℕ, _+_, _*_}
-use mathlib.Core.Bool.{cond}
+-- The results of the exported calls on a survey and on one adapter, as words. Assumes nothing.
+use Prim.Native.Nat.{ℕ}
 use mathlib.Core.List.{List, [], _∷_}
 use mathlib.Core.Option.{Option, none, some}
-use lib.Dec.{ltb}
 use Rattle.usb4.specs.Numbers.{typeNumber, stateNumber, speedNumber}
 use Rattle.usb4.specs.declared.Speed.{Speed}
 use Rattle.text.specs.Text.{bit}
@@ -25,7 +23,3 @@ infoWords i = typeNumber (i .kind) ∷ stateNumber (i .state) ∷ bit (i .lane0)
 
 unfoldable pub speedWords : Speed → List ℕ
 speedWords s = speedNumber s ∷ []
-
--- the words of a path of n hops, a head and two words a hop; 0 where 64 bits can't hold them, which is no path's number
-unfoldable pub hopCountWords : ℕ → List ℕ
-hopCountWords n = cond (ltb n 9223372036854775808) (1 + 2 * n) 0 ∷ []

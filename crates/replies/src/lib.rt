@@ -1,31 +1,24 @@
-// What the exported calls answer, in eight words: the calls on a survey.
+// What the exported calls answer, in eight words: a refusal, and the calls on a survey and on one adapter.
 ghost use mathlib.Core.Path.{_≡_};
-ghost use mathlib.Core.List.{[], _∷_};
 ghost use mathlib.Core.Option.{some};
-ghost use Rattle.refusal.specs.Outcome.{refused as refusal, value};
+ghost use Rattle.refusal.specs.Outcome.{value};
 ghost use Rattle.acceptance.specs.Accepted.{acceptedOutcome};
 ghost use Rattle.adapters.specs.Calls.{adapterOutcome, infoIn, speedOutcome, maxHopOutcome};
 ghost use Rattle.adapter.specs.Adapter.{hopOutcome};
 ghost use Rattle.load.specs.Answers.{refusedBy};
-ghost use Rattle.parents.specs.Parents.{parentOutcome};
-ghost use Rattle.path.specs.Put.{walkOutcome};
-ghost use Rattle.discovery.specs.Answers.{tunnelsOutcome};
 ghost use Rattle.text.specs.Text.{bit as bitOf};
 ghost use Rattle.answers.specs.Said.{said, always, perhaps, one};
-ghost use Rattle.replies.specs.Replies.{hopOr, countsWords, infoWords, speedWords, hopCountWords};
+ghost use Rattle.replies.specs.Replies.{hopOr, countsWords, infoWords, speedWords};
 use acceptance::Acceptance;
 use adapter::HopFound;
 use adapters::AdapterAnswer;
 use adapters::AdapterInfo;
 use adapters::MaxHopAnswer;
 use adapters::SpeedAnswer;
-use discovery::TunnelsAnswer;
 use load::Refusal;
-use parents::ParentAnswer;
-use path::WalkAnswer;
 
 // A refusal's number and values.
-fn refused(refusal: Refusal) -> [u64; 8]
+pub fn refused(refusal: Refusal) -> [u64; 8]
     ensures { λ r. ⌜ r ≡ said (refusedBy refusal) ⌝ }
 {
     let n = refusals::numbers_of(refusal);
@@ -39,13 +32,6 @@ fn refused(refusal: Refusal) -> [u64; 8]
         0,
         0,
     ]
-}
-
-// 2 with the words needed.
-fn short(need: usize) -> [u64; 8]
-    ensures { λ r. ⌜ r ≡ said (refusal 2 (need ∷ [])) ⌝ }
-{
-    [2, need as u64, 0, 0, 0, 0, 0, 0]
 }
 
 // A result of one number.
@@ -131,50 +117,5 @@ pub fn max_hop(answer: MaxHopAnswer) -> [u64; 8]
         MaxHopAnswer::Hop(h) => result(h as u64),
         MaxHopAnswer::None => [0; 8],
         MaxHopAnswer::Refused(refusal) => refused(refusal),
-    }
-}
-
-// A parent's place, or none.
-pub fn parent(answer: ParentAnswer) -> [u64; 8]
-    ensures { λ r. ⌜ r ≡ said (perhaps one (parentOutcome answer)) ⌝ }
-{
-    match answer {
-        ParentAnswer::Place(p) => result(p as u64),
-        ParentAnswer::None => [0; 8],
-        ParentAnswer::Refused(refusal) => refused(refusal),
-    }
-}
-
-// The words of a path of so many hops.
-fn words_of(hops: usize) -> u64
-    ensures { λ r. ⌜ one r ≡ hopCountWords hops ⌝ }
-{
-    if hops < 9223372036854775808 {
-        return 1 + 2 * (hops as u64);
-    }
-    0
-}
-
-// The words of a path, or none.
-pub fn walk(answer: WalkAnswer) -> [u64; 8]
-    ensures { λ r. ⌜ r ≡ said (perhaps hopCountWords (walkOutcome answer)) ⌝ }
-{
-    match answer {
-        WalkAnswer::Path(n) => result(words_of(n)),
-        WalkAnswer::Absent => [0; 8],
-        WalkAnswer::Short(n) => short(n),
-        WalkAnswer::Refused(refusal) => refused(refusal),
-    }
-}
-
-// The words of a list of tunnels, or that there is none.
-pub fn tunnels(answer: TunnelsAnswer) -> [u64; 8]
-    ensures { λ r. ⌜ r ≡ said (perhaps one (tunnelsOutcome answer)) ⌝ }
-{
-    match answer {
-        TunnelsAnswer::Words(n) => result(n as u64),
-        TunnelsAnswer::Absent => [0; 8],
-        TunnelsAnswer::Short(n) => short(n),
-        TunnelsAnswer::Refused(refusal) => refused(refusal),
     }
 }

@@ -1,11 +1,11 @@
--- `replies::words_of` meets its contract.
+-- `findings::words_of` meets its contract.
 use mathlib.Core.Path.{sym}
 use borrow.Author.Tests.{lt-ltb, le-ltb}
 use Rattle.answers.specs.Said.{one}
-use Rattle.replies.specs.Replies.{hopCountWords}
+use Rattle.findings.specs.Findings.{hopCountWords}
 use borrow.Author.Needs.{needs}
-use Rattle.replies.proofs.words_of.Statement.{statement}
-use Rattle.replies.proofs.words_of.Tie as tie
+use Rattle.findings.proofs.words_of.Statement.{statement}
+use Rattle.findings.proofs.words_of.Tie as tie
 
 mul-result : tie.Need-mul-result
 mul-result c = search needs

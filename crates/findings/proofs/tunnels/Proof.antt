@@ -1,27 +1,21 @@
--- `replies::tunnels` meets its contract.
+-- `findings::tunnels` meets its contract.
 use mathlib.Core.Path.{sym, ap, _∙_}
 use Rattle.refusal.specs.Outcome.{bind}
 use Rattle.discovery.specs.Answers.{tunnelsOutcome}
 use Rattle.answers.specs.Said.{said, padded, wordsIn, perhaps, one}
 use Rattle.replies.proofs.Laws.{perhaps-refused}
 use borrow.Author.Needs.{needs}
-use Rattle.replies.proofs.tunnels.Statement.{statement}
-use Rattle.replies.proofs.tunnels.Tie as tie
+use Rattle.findings.proofs.tunnels.Statement.{statement}
+use Rattle.findings.proofs.tunnels.Tie as tie
 
 enum-known-answer : tie.Need-enum-known-answer
 enum-known-answer c = search needs
-
-result-requires : tie.Need-result-requires
-result-requires c κs = search needs
 
 enum-told : tie.Need-enum-told
 enum-told c = search needs
 
 enum-known-answer-2 : tie.Need-enum-known-answer-2
 enum-known-answer-2 c = search needs
-
-short-requires : tie.Need-short-requires
-short-requires c κs = search needs
 
 enum-known-answer-3 : tie.Need-enum-known-answer-3
 enum-known-answer-3 c = search needs
@@ -31,7 +25,7 @@ refused-requires c κs = search needs
 
 returns : tie.Need-returns
 unfolding said padded bind perhaps wordsIn one tunnelsOutcome
-returns c = (c .result .ensures) ∙ sym (ap (λ a. said (perhaps one (tunnelsOutcome a))) (c .before .before .answer .given .1))
+returns c = sym (ap (λ a. said (perhaps one (tunnelsOutcome a))) (c .before .answer .given .1))
 
 returns-2 : tie.Need-returns-2
 unfolding said padded bind perhaps wordsIn one tunnelsOutcome
@@ -39,7 +33,7 @@ returns-2 c = sym (ap (λ a. said (perhaps one (tunnelsOutcome a))) (c .enum-tol
 
 returns-3 : tie.Need-returns-3
 unfolding said padded bind perhaps wordsIn one tunnelsOutcome
-returns-3 c = (c .short .ensures) ∙ sym (ap (λ a. said (perhaps one (tunnelsOutcome a))) (c .before .before .answer2 .given .1))
+returns-3 c = sym (ap (λ a. said (perhaps one (tunnelsOutcome a))) (c .before .answer2 .given .1))
 
 returns-4 : tie.Need-returns-4
 unfolding said padded bind perhaps wordsIn one tunnelsOutcome
@@ -50,10 +44,8 @@ tunnels-spec =
     tie.close
     (tie.spec
     enum-known-answer
-    result-requires
     enum-told
     enum-known-answer-2
-    short-requires
     enum-known-answer-3
     refused-requires
     returns

@@ -1,18 +1,15 @@
--- `replies::parent` meets its contract.
+-- `findings::parent` meets its contract.
 use mathlib.Core.Path.{sym, ap, _∙_}
 use Rattle.refusal.specs.Outcome.{bind}
 use Rattle.parents.specs.Parents.{parentOutcome}
 use Rattle.answers.specs.Said.{said, padded, wordsIn, perhaps, one}
 use Rattle.replies.proofs.Laws.{perhaps-refused}
 use borrow.Author.Needs.{needs}
-use Rattle.replies.proofs.parent.Statement.{statement}
-use Rattle.replies.proofs.parent.Tie as tie
+use Rattle.findings.proofs.parent.Statement.{statement}
+use Rattle.findings.proofs.parent.Tie as tie
 
 enum-known-answer : tie.Need-enum-known-answer
 enum-known-answer c = search needs
-
-result-requires : tie.Need-result-requires
-result-requires c κs = search needs
 
 enum-told : tie.Need-enum-told
 enum-told c = search needs
@@ -25,7 +22,7 @@ refused-requires c κs = search needs
 
 returns : tie.Need-returns
 unfolding said padded bind perhaps wordsIn one parentOutcome
-returns c = (c .result .ensures) ∙ sym (ap (λ a. said (perhaps one (parentOutcome a))) (c .before .before .answer .given .1))
+returns c = sym (ap (λ a. said (perhaps one (parentOutcome a))) (c .before .answer .given .1))
 
 returns-2 : tie.Need-returns-2
 unfolding said padded bind perhaps wordsIn one parentOutcome
@@ -40,7 +37,6 @@ parent-spec =
     tie.close
     (tie.spec
     enum-known-answer
-    result-requires
     enum-told
     enum-known-answer-2
     refused-requires
