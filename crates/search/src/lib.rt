@@ -1,22 +1,10 @@
 // Searches in the tables of path entries and adapters, by key. Any words will do; where a table's keys fall, what is found is free.
-ghost use Prim.Native.Nat.{_/_, _<_};
-ghost use mathlib.Core.Path.{_≡_};
-ghost use Rattle.adapter.specs.Adapter.{factsRow, maxHopOutcome};
-ghost use Rattle.state.specs.State.{speedOutcome};
 ghost use Rattle.search.specs.Ahead.{HopAhead};
 ghost use Rattle.search.specs.Lanes.{LaneSought};
 ghost use Rattle.search.specs.Work.{WordSought};
-ghost use Rattle.tables.specs.Packed.{typeBy, stateBy, speedBy, numberBy, adapterWord};
 ghost use Rattle.tables.specs.Found.{Boundary, EntrySought, AdapterSought};
-ghost use Rattle.refusal.specs.declared.Site.{Site};
-use adapter::Facts;
-use adapter::MaxHop;
-use state::SpeedFound;
 use tables::AdapterFound;
 use tables::EntryAt;
-use usb4::AdapterType;
-use usb4::Speed;
-use usb4::State;
 
 // A HopID, or there is none.
 pub enum HopAt {
@@ -97,128 +85,6 @@ pub fn next_hop(entries: &[u64], place: usize, adapter: u8, hop: u16) -> HopAt
     HopAt::Hop((w / 16777216 % 65536) as u16)
 }
 
-// A kind by its number.
-fn type_by(number: u64) -> AdapterType
-    ensures { λ r. ⌜ r ≡ typeBy number ⌝ }
-{
-    if number == 1 {
-        return AdapterType::Inactive;
-    }
-    if number == 2 {
-        return AdapterType::Lane;
-    }
-    if number == 3 {
-        return AdapterType::HostInterface;
-    }
-    if number == 4 {
-        return AdapterType::DisplayPortIn;
-    }
-    if number == 5 {
-        return AdapterType::DisplayPortOut;
-    }
-    if number == 6 {
-        return AdapterType::PcieDown;
-    }
-    if number == 7 {
-        return AdapterType::PcieUp;
-    }
-    if number == 8 {
-        return AdapterType::Usb3Down;
-    }
-    if number == 9 {
-        return AdapterType::Usb3Up;
-    }
-    if number == 10 {
-        return AdapterType::Usb3GenTDown;
-    }
-    if number == 11 {
-        return AdapterType::Usb3GenTUp;
-    }
-    AdapterType::Unknown
-}
-
-// A state by its number.
-fn state_by(number: u64) -> State
-    ensures { λ r. ⌜ r ≡ stateBy number ⌝ }
-{
-    if number == 1 {
-        return State::Disabled;
-    }
-    if number == 2 {
-        return State::Enabled;
-    }
-    if number == 3 {
-        return State::Training;
-    }
-    if number == 4 {
-        return State::Cl0;
-    }
-    if number == 5 {
-        return State::Cl0sTx;
-    }
-    if number == 6 {
-        return State::Cl0sRx;
-    }
-    if number == 7 {
-        return State::Cl1;
-    }
-    if number == 8 {
-        return State::Cl2;
-    }
-    if number == 9 {
-        return State::Cld;
-    }
-    State::Unknown
-}
-
-// A speed by its number, or that it is refused.
-fn speed_by(number: u64) -> SpeedFound
-    ensures { λ r. ⌜ ((s : Site) → speedOutcome s r ≡ speedBy s number) ⌝ }
-{
-    if number == 1 {
-        return SpeedFound::Speed(Speed::Gen2);
-    }
-    if number == 2 {
-        return SpeedFound::Speed(Speed::Gen3);
-    }
-    if number == 3 {
-        return SpeedFound::Speed(Speed::Gen4);
-    }
-    if number == 4 {
-        return SpeedFound::NoField;
-    }
-    SpeedFound::Speed(Speed::Unknown)
-}
-
-// A largest HopID by its code.
-fn max_hop_by(code: u64) -> MaxHop
-    requires { ⌜ code < 1048576 ⌝ }
-    ensures { λ r. ⌜ ((s : Site) → maxHopOutcome s r ≡ numberBy s code) ⌝ }
-{
-    if code < 1 {
-        return MaxHop::None;
-    }
-    if code < 2 {
-        return MaxHop::NoField;
-    }
-    MaxHop::Hop((code - 2) as u32)
-}
-
-// The adapter that a word holds.
-fn facts_of(w: u64) -> Facts
-    ensures { λ r. ⌜ factsRow (w / 281474976710656) r ≡ adapterWord w ⌝ }
-{
-    Facts {
-        number: (w / 1099511627776 % 256) as u8,
-        kind: type_by(w / 65536 % 16),
-        state: state_by(w / 4096 % 16),
-        lane0: w / 16 % 16 == 1,
-        lane1: w % 16 == 1,
-        speed: speed_by(w / 256 % 16),
-        max_hop: max_hop_by(w / 1048576 % 1048576),
-    }
-}
-
 // The word of the adapter of a device with a number.
 fn adapter_word(adapters: &[u64], place: usize, number: u8) -> WordAt
     ensures { λ r. ⌜ WordSought (now (adapters .entry)) place number r ⌝ }
@@ -245,7 +111,7 @@ pub fn find_adapter(adapters: &[u64], place: usize, number: u8) -> AdapterFound
     let WordAt::Word(w) = adapter_word(adapters, place, number) else {
         return AdapterFound::Nowhere;
     };
-    AdapterFound::Adapter(facts_of(w))
+    AdapterFound::Adapter(facts::facts_of(w))
 }
 
 // Whether the adapter of a device with a number is a lane: no more of it than a walk asks.

@@ -1,24 +1,21 @@
+-- `facts::max_hop_by` meets its contract.
 use Rattle.tables.proofs.Laws.{number-none, number-lacks, number-given}
 use Rattle.adapter.specs.Adapter.{maxHopOutcome}
 use borrow.Author.Needs.{needs}
-use Rattle.search.proofs.max_hop_by.Statement.{statement}
-use Rattle.search.proofs.max_hop_by.Tie as tie
+use Rattle.facts.proofs.max_hop_by.Statement.{statement}
+use Rattle.facts.proofs.max_hop_by.Tie as tie
 
--- src/lib.rt:196:9
 returns : tie.Need-returns
 unfolding maxHopOutcome
 returns c = λ s. number-none s (c .before .args .code) (c .if1 .taken)
 
--- src/lib.rt:199:9
 returns-2 : tie.Need-returns-2
 unfolding maxHopOutcome
 returns-2 c = λ s. number-lacks s (c .before .before .args .code) (c .before .if1 .left) (c .if2 .taken)
 
--- src/lib.rt:201:17
 cast-t4 : tie.Need-cast-t4
 cast-t4 c = search needs
 
--- src/lib.rt:191:1
 returns-3 : tie.Need-returns-3
 unfolding maxHopOutcome
 returns-3 c = λ s. number-given s (c .before .before .args .code) (c .if2 .left)
