@@ -1,4 +1,4 @@
-// The routes of a router's adapters, and where a hop leads, on the tables that a survey is loaded to.
+// Where a hop leads, on the tables that a survey is loaded to.
 ghost use Prim.Native.Nat.{ℕ, _<_};
 ghost use mathlib.Core.Path.{_≡_};
 ghost use mathlib.Core.Option.{some};
@@ -6,14 +6,13 @@ ghost use Rattle.refusal.specs.Outcome.{value, bind};
 ghost use Rattle.refusal.specs.declared.Site.{Site};
 ghost use Rattle.refusal.specs.declared.Fault.the-variants.{NoParentRoute, NoDownstreamRoute};
 ghost use Rattle.route.specs.Route.{upstreamRoute, downstreamRoute};
-ghost use Rattle.adapter.specs.Adapter.{adapterSite, factsRow};
+ghost use Rattle.adapter.specs.Adapter.{adapterSite};
 ghost use Rattle.tables.specs.Rows.{adapterIn};
 ghost use Rattle.tables.specs.Packed.{Sorted, adapterUnit, adaptersIn};
 ghost use Rattle.tables.specs.Found.{deviceRow, upstreamOutcome};
-ghost use Rattle.fabric.specs.Links.{isUpstream, routeOr, upstreamRouteOf, downstreamRouteOf, routeOutcome};
+ghost use Rattle.fabric.specs.Links.{isUpstream, routeOr};
 ghost use Rattle.fabric.specs.Fabric.{standBy, arriveUp, arriveDown, toRoute, leads};
 ghost use Rattle.fabric.specs.Tables.{nextOutcome, LeadsTo};
-use adapter::Facts;
 use load::Refusal;
 use refusal::Fault;
 use refusal::Site;
@@ -25,6 +24,7 @@ use tables::DeviceFound;
 use tables::RouterFound;
 use tables::Upstream;
 
+// The route of an adapter, none, or what refuses it.
 pub enum RouteAnswer {
     Route(u64),
     None,
@@ -48,44 +48,6 @@ fn is_upstream(upstream: Upstream, number: u8) -> bool
         Upstream::None => false,
         Upstream::NoField => false,
     }
-}
-
-// The route of the router before an upstream lane; 11 at depth 0.
-pub fn upstream_route_of(place: usize, d: DeviceFacts, f: Facts) -> RouteAnswer
-    ensures { λ r. ⌜ routeOutcome r ≡ upstreamRouteOf place (deviceRow place d) (factsRow place f) ⌝ }
-{
-    let kind = f.kind;
-    if usb4::type_number(kind) != 2 {
-        return RouteAnswer::None;
-    }
-    let upstream = d.upstream;
-    if !is_upstream(upstream, f.number) {
-        return RouteAnswer::None;
-    }
-    let RouteFound::Route(r) = route::upstream_route(d.route) else {
-        return RouteAnswer::Refused(Refusal::Fault(Fault::NoParentRoute(Site {
-            place,
-            adapter: f.number,
-        })));
-    };
-    RouteAnswer::Route(r)
-}
-
-// The route of the router behind a lane; 12 at depth 8.
-pub fn downstream_route_of(place: usize, d: DeviceFacts, f: Facts) -> RouteAnswer
-    ensures { λ r. ⌜ routeOutcome r ≡ downstreamRouteOf place (deviceRow place d) (factsRow place f) ⌝ }
-{
-    let kind = f.kind;
-    if usb4::type_number(kind) != 2 {
-        return RouteAnswer::None;
-    }
-    let RouteFound::Route(r) = route::downstream_route(d.route, f.number) else {
-        return RouteAnswer::Refused(Refusal::Fault(Fault::NoDownstreamRoute(Site {
-            place,
-            adapter: f.number,
-        })));
-    };
-    RouteAnswer::Route(r)
 }
 
 // At an adapter of the device at a place; a missing one gives no path at all.

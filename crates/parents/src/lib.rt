@@ -59,7 +59,7 @@ fn router_parent(
             let AdapterFound::Adapter(f) = search::find_adapter(adapters, place, a) else {
                 return ParentAnswer::None;
             };
-            match fabric::upstream_route_of(place, d, f) {
+            match links::upstream_route_of(place, d, f) {
                 RouteAnswer::Refused(refusal) => ParentAnswer::Refused(refusal),
                 RouteAnswer::None => ParentAnswer::None,
                 RouteAnswer::Route(r) => router_at(routes, marks, d.domain, r),

@@ -48,7 +48,7 @@ pub fn upstream_route(descriptions: &[u32], survey: &[u32], place: usize, number
 {
     match read_pair(descriptions, survey, place, number) {
         PairRead::Refused(refusal) => RouteAnswer::Refused(refusal),
-        PairRead::Pair(d, f) => fabric::upstream_route_of(place, d, f),
+        PairRead::Pair(d, f) => links::upstream_route_of(place, d, f),
     }
 }
 
@@ -63,6 +63,6 @@ pub fn downstream_route(
 {
     match read_pair(descriptions, survey, place, number) {
         PairRead::Refused(refusal) => RouteAnswer::Refused(refusal),
-        PairRead::Pair(d, f) => fabric::downstream_route_of(place, d, f),
+        PairRead::Pair(d, f) => links::downstream_route_of(place, d, f),
     }
 }

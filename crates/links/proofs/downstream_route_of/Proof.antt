@@ -1,40 +1,34 @@
+-- `links::downstream_route_of` meets its contract.
 use mathlib.Core.Path.{sym, _∙_}
 use Rattle.tables.specs.Found.{deviceRow}
 use Rattle.adapter.specs.Adapter.{factsRow, adapterSite}
 use Rattle.load.specs.Answers.{refusedBy}
 use Rattle.fabric.specs.Links.{routeOutcome, routeOr}
 use Rattle.fabric.proofs.Laws.{lane-by, no-lane-by, down-no-lane, down-route}
 use borrow.Author.Needs.{needs}
-use Rattle.fabric.proofs.downstream_route_of.Statement.{statement}
-use Rattle.fabric.proofs.downstream_route_of.Tie as tie
+use Rattle.links.proofs.downstream_route_of.Statement.{statement}
+use Rattle.links.proofs.downstream_route_of.Tie as tie
 
--- src/lib.rt:76:8
 type-number-requires : tie.Need-type-number-requires
 type-number-requires c κs = search needs
 
--- src/lib.rt:77:9
 returns : tie.Need-returns
 unfolding routeOutcome factsRow
 returns c = down-no-lane _ _ _ (no-lane-by _ _ (c .before .type-number .ensures) (c .if1 .taken))
 
--- src/lib.rt:79:32
 downstream-route-requires : tie.Need-downstream-route-requires
 downstream-route-requires c κs = search needs
 
--- src/lib.rt:79:27
 enum-known-r : tie.Need-enum-known-r
 enum-known-r c = search needs
 
--- src/lib.rt:80:77
 enum-told : tie.Need-enum-told
 enum-told c = search needs
 
--- src/lib.rt:80:9
 returns-2 : tie.Need-returns-2
 unfolding routeOutcome factsRow deviceRow refusedBy routeOr adapterSite
 returns-2 c = down-route _ _ _ (lane-by _ _ (c .before .before .before .before .type-number .ensures) (c .before .before .before .if1 .left)) _ (sym (c .before .before .downstream-route .ensures) ∙ c .enum-told .given .1)
 
--- src/lib.rt:72:1
 returns-3 : tie.Need-returns-3
 unfolding routeOutcome factsRow deviceRow routeOr
 returns-3 c = down-route _ _ _ (lane-by _ _ (c .before .before .before .before .before .type-number .ensures) (c .before .before .before .before .if1 .left)) _ (sym (c .before .before .before .downstream-route .ensures) ∙ c .before .r .given .1)
