@@ -1,11 +1,10 @@
-// What the program prints, into a lent buffer: the lines of result words, the number of tunnels, a refusal.
+// What the program prints of result words, into a lent buffer: their lines; and how many tunnels they have.
 ghost use Prim.Native.Nat.{_<_};
 ghost use mathlib.Core.Path.{_≡_};
-ghost use mathlib.Core.List.{_∷_, _++_};
+ghost use mathlib.Core.List.{_∷_};
 ghost use lib.ListN.{length, drop};
-ghost use Rattle.util.specs.Text.{bytesOf};
-ghost use Rattle.print.specs.Print.{decimal, Puts};
-ghost use Rattle.printed.specs.Printed.{partsOf, linesOf, tunnelsIn, totalLine, refusedLine, PrintDone};
+ghost use Rattle.print.specs.Print.{Puts};
+ghost use Rattle.printed.specs.Printed.{partsOf, linesOf, tunnelsIn, PrintDone};
 
 // How many bytes were written, or the bytes needed (2).
 pub enum Printed {
@@ -73,43 +72,4 @@ pub fn tunnels(words: &[u32]) -> usize
         i = next_head(words, i);
     }
     n
-}
-
-// Puts a word and a number as a line.
-fn put_numbered(text: &[u8], n: u64, out: &mut [u8]) -> usize
-    ensures { λ r. ⌜ Puts (now (out .entry)) 0 (now (text .entry) ++ decimal n ++ bytesOf "\n") r (now (out .exit)) ⌝ }
-{
-    let a = print::put_text(out, 0, text);
-    let b = print::put_number(out, a, n);
-    print::put_text(out, b, b"\n")
-}
-
-// A word and a number as a line.
-fn numbered(text: &[u8], n: u64, output: &mut [u8]) -> Printed
-    ensures { λ r. ⌜ PrintDone (now (text .entry) ++ decimal n ++ bytesOf "\n") (now (output .entry)) r (now (output .exit)) ⌝ }
-{
-    let mut nowhere = [0u8; 1];
-    let need = put_numbered(text, n, &mut nowhere);
-    if MOST <= need {
-        return Printed::Short(need);
-    }
-    if output.len() < need {
-        return Printed::Short(need);
-    }
-    put_numbered(text, n, output);
-    Printed::Bytes(need)
-}
-
-// The first line: the number of tunnels.
-pub fn total(tunnels: usize, output: &mut [u8]) -> Printed
-    ensures { λ r. ⌜ PrintDone (totalLine tunnels) (now (output .entry)) r (now (output .exit)) ⌝ }
-{
-    numbered(b"tunnels ", tunnels as u64, output)
-}
-
-// The only line where something is refused: its number.
-pub fn refused(number: u8, output: &mut [u8]) -> Printed
-    ensures { λ r. ⌜ PrintDone (refusedLine number) (now (output .entry)) r (now (output .exit)) ⌝ }
-{
-    numbered(b"refused ", number as u64, output)
 }

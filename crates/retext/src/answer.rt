@@ -16,7 +16,7 @@ fn page_room() -> [u8; 786432]
 
 fn after_refused(stored: &[u8], number: u8) -> usize {
     let mut line = [0u8; 16];
-    let Printed::Bytes(n) = printed::refused(number, &mut line) else {
+    let Printed::Bytes(n) = summary::refused(number, &mut line) else {
         return stored.len();
     };
     after(stored, 0, &line[..n])
@@ -24,7 +24,7 @@ fn after_refused(stored: &[u8], number: u8) -> usize {
 
 fn after_total(stored: &[u8], tunnels: usize) -> usize {
     let mut line = [0u8; 32];
-    let Printed::Bytes(n) = printed::total(tunnels, &mut line) else {
+    let Printed::Bytes(n) = summary::total(tunnels, &mut line) else {
         return stored.len();
     };
     after(stored, 0, &line[..n])

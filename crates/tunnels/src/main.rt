@@ -30,14 +30,14 @@ fn small_room() -> [u8; 8192]
 
 fn write_refused(number: u8) {
     let mut line = [0u8; 16];
-    if let Printed::Bytes(n) = printed::refused(number, &mut line) {
+    if let Printed::Bytes(n) = summary::refused(number, &mut line) {
         io::write_all(STDOUT_FILENO, &line[..n]);
     }
 }
 
 fn write_total(tunnels: usize) {
     let mut line = [0u8; 32];
-    if let Printed::Bytes(n) = printed::total(tunnels, &mut line) {
+    if let Printed::Bytes(n) = summary::total(tunnels, &mut line) {
         io::write_all(STDOUT_FILENO, &line[..n]);
     }
 }

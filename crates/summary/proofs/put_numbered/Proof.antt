@@ -1,3 +1,4 @@
+-- `summary::put_numbered` meets its contract.
 use Prim.Native.Nat.{_≤_}
 use native.Mathlib.Omega.{arith}
 use denote.Ref.{now}
@@ -6,30 +7,24 @@ use Rattle.util.specs.Text.{bytesOf}
 use Rattle.print.specs.Print.{most}
 use Rattle.print.proofs.Laws.{then}
 use borrow.Author.Needs.{needs}
-use Rattle.printed.proofs.put_numbered.Statement.{statement}
-use Rattle.printed.proofs.put_numbered.Tie as tie
+use Rattle.summary.proofs.put_numbered.Statement.{statement}
+use Rattle.summary.proofs.put_numbered.Tie as tie
 
--- src/lib.rt:82:9
 put-text-requires : tie.Need-put-text-requires
 put-text-requires c κs = search needs
 
--- src/lib.rt:83:9
 put-number-requires : tie.Need-put-number-requires
 put-number-requires c κs = search needs
 
--- src/lib.rt:84:29
 slice-aggregate-put-text : tie.Need-slice-aggregate-put-text
 slice-aggregate-put-text c = search needs
 
--- src/lib.rt:84:5
 put-text-requires-2 : tie.Need-put-text-requires-2
 put-text-requires-2 c κs = search needs
 
--- src/lib.rt:79:1
 same-length : tie.Need-same-length
 same-length c = search needs
 
--- src/lib.rt:79:1
 returns : tie.Need-returns
 unfolding bytesOf
 returns c = let s = c .before .before .before .before .before .before .before .before .before .before .before .before .before .before .before in

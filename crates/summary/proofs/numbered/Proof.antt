@@ -1,33 +1,27 @@
+-- `summary::numbered` meets its contract.
 use Rattle.printed.proofs.Laws.{too-long, no-room, room}
 use borrow.Author.Needs.{needs}
-use Rattle.printed.proofs.numbered.Statement.{statement}
-use Rattle.printed.proofs.numbered.Tie as tie
+use Rattle.summary.proofs.numbered.Statement.{statement}
+use Rattle.summary.proofs.numbered.Tie as tie
 
--- src/lib.rt:92:38
 slice-aggregate-put-numbered : tie.Need-slice-aggregate-put-numbered
 slice-aggregate-put-numbered c = search needs
 
--- src/lib.rt:92:9
 put-numbered-requires : tie.Need-put-numbered-requires
 put-numbered-requires c κs = search needs
 
--- src/lib.rt:94:9
 returns : tie.Need-returns
 returns c = too-long (c .before .before .put-numbered .ensures) _ (c .if1 .taken)
 
--- src/lib.rt:97:9
 returns-2 : tie.Need-returns-2
 returns-2 c = no-room (c .before .before .before .put-numbered .ensures) _ (c .before .if1 .left) (c .if2 .taken)
 
--- src/lib.rt:99:5
 put-numbered-requires-2 : tie.Need-put-numbered-requires-2
 put-numbered-requires-2 c κs = search needs
 
--- src/lib.rt:88:1
 same-length : tie.Need-same-length
 same-length c = search needs
 
--- src/lib.rt:88:1
 returns-3 : tie.Need-returns-3
 returns-3 c = room (c .before .before .before .before .before .before .before .put-numbered .ensures) (c .before .before .before .before .before .if1 .left) (c .before .before .before .before .if2 .left) (c .before .before .put-numbered2 .ensures)
 
