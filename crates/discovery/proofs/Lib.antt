@@ -2,4 +2,5 @@ pub mod Walks
 pub mod Writing
 pub mod Rings
 pub mod Past
+pub mod Quiet
 pub mod Answering

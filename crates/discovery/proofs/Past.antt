@@ -22,14 +22,10 @@ use Rattle.walk.proofs.Laws.{hopped, walk-ends}
 use Rattle.path.specs.Put.{Sized}
 use Rattle.receive.specs.Receive.{at, Lane, Lane.lane, Lane.passed, Lane.dropped, laneOf, atLane, Receive, Receive.received, Receive.nothing, Receive.lost, usesRing, orRest, orNext, amongHops, amongDevices, receive}
 use Rattle.tunnel.specs.Tunnels.{Tunnel, txPath, withPaths, ringTunnel, oneDma, rings}
-use Rattle.discovery.specs.Work.{ringsEnd}
+use Rattle.discovery.specs.Work.{ringsEnd, among, outHops, Quiet, Unasked}
 use Rattle.discovery.proofs.Rings.{rings-split}
 
 -- ---- of more rings than entries, one is no entry's out HopID
-
-unfoldable pub among : ℕ → List ℕ → Bool
-among v [] = false
-among v (x ∷ l) = eqb x v || among v l
 
 unfoldable without : ℕ → List ℕ → List ℕ
 without v [] = []
@@ -100,7 +96,7 @@ found-among (y ∷ es) p a h e q = go (eqb (y .device) p && eqb (y .adapter) a &
         pick true g = refl
         pick false g = g
 
-unused : (x : Rows) (v : ℕ) → among v (outs (x .entries)) ≡ false → Unused x v
+pub unused : (x : Rows) (v : ℕ) → among v (outs (x .entries)) ≡ false → Unused x v
 unfolding Unused
 unused x v n p a h e q f = true≢false (sym (found-among (x .entries) p a h e q) ∙ ap (λ k. among k (outs (x .entries))) f ∙ n)
 
@@ -151,7 +147,7 @@ module _ (x : Rows) (v w : ℕ) (u : Unused x v) (t : Unused x w) where
       go (refused j vs) = refl
       go (value l) = ap (λ r. bind r (orNext (amongDevices x v (suc p) ds))) (lane-alike l)
 
-  receive-alike : receive x v ≡ receive x w
+  pub receive-alike : receive x v ≡ receive x w
   unfolding receive
   receive-alike = devices-alike 0 (x .devices)
 
@@ -188,7 +184,7 @@ module _ (x : Rows) (v : ℕ) (u : Unused x v) where
       along (value dropped) ih g = let z : _≡_ {A = ℕ} 0 1 = cc in omega arith
 
   -- such a ring has no tunnel, where it has no DMA TX path
-  bare-tunnel : (r : Receive) → receive x v ≡ value r → ringTunnel none r ≡ none
+  pub bare-tunnel : (r : Receive) → receive x v ≡ value r → ringTunnel none r ≡ none
   unfolding receive ringTunnel withPaths txPath Bare
   bare-tunnel (received hs) e = absurd (devices-bare 0 (x .devices) hs e)
   bare-tunnel nothing e = refl

@@ -2,19 +2,21 @@
 use Prim.Native.Nat.{ℕ, _+_, _≤_, _<_}
 use mathlib.Core.Path.{_≡_}
 use mathlib.Core.Logic.{_⊎_}
-use mathlib.Core.Bool.{false, cond}
-use mathlib.Core.List.{List, [], _∷_, _++_, Option·toList}
+use mathlib.Core.Bool.{Bool, false, cond, _||_}
+use mathlib.Core.List.{List, [], _∷_, _++_, map, Option·toList}
 use mathlib.Core.Option.{Option, none, some}
 use lib.Dec.{ltb, eqb}
 use lib.ListN.{length, getD, take, drop}
 use Rattle.refusal.specs.Outcome.{Outcome, value, bind}
 use Rattle.usb4.specs.declared.TunnelType.the-variants as tunnelType
-use Rattle.tables.specs.Rows.{EntryRow, Rows}
+use Rattle.tables.specs.Rows.{EntryRow, Rows, entryIn}
+use Rattle.tables.specs.Packed.{entriesIn, entryUnit, Sorted}
 use Rattle.load.specs.Answers.{refusedBy}
 use Rattle.walk.specs.Rule.{walkFrom}
 use Rattle.walk.specs.Tables.{rowsOf, Tabled}
 use Rattle.path.specs.Words.{pathWords}
 use Rattle.path.specs.Put.{Sized}
+use Rattle.receive.specs.Receive.{Receive, receive}
 use Rattle.tunnel.specs.Tunnels.{Path, Tunnel, downAndUp, displayPort, oneDma, rings, orNone, alone}
 use Rattle.tunnel.specs.Words.{tunnelsWords}
 use Rattle.tunnel.specs.Plans.{From, startOf, planIf, plannedOutcome}
@@ -73,6 +75,24 @@ pub record Marked (ring words : ℕ) (old new : List ℕ) : Type 0 where
 -- a ring that is marked has no tunnel
 pub record Idle (en ad ro ma : List ℕ) (p a : ℕ) (idle : List ℕ) : Type 0 where
   pub rests : Sized en ro → Tabled en ad ro → p < 65536 → (j : ℕ) → getD idle j 0 ≡ 1 → oneDma (rowsOf en ad ro ma) p a j ≡ value none
+
+-- a number is in a list
+unfoldable pub among : ℕ → List ℕ → Bool
+among v [] = false
+among v (x ∷ l) = eqb x v || among v l
+
+-- the HopIDs by which entries leave
+unfoldable pub outHops : List ℕ → List ℕ
+outHops en = map (λ (e : EntryRow). e .outHop) (entriesIn en)
+
+-- the search for a receive path is not refused for a ring that no entry leaves by
+pub record Quiet (en ad ro ma : List ℕ) : Type 0 where
+  pub searched : Tabled en ad ro → (v : ℕ) → among v (outHops en) ≡ false → (r : Receive) × (receive (rowsOf en ad ro ma) v ≡ value r)
+
+-- no entry leaves by a ring, and none stands at it
+pub record Unasked (en : List ℕ) (p a ring : ℕ) : Type 0 where
+  pub unused : among ring (outHops en) ≡ false
+  pub missing : p < 65536 → Sorted entryUnit en → entryIn (entriesIn en) p a ring ≡ none
 
 -- the words of the tunnels of k rings from 1 on
 pub record Tallies (en ad ro ma : List ℕ) (p a k : ℕ) (r : Tally) : Type 0 where

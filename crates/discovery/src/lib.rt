@@ -5,17 +5,19 @@ ghost use mathlib.Core.Bool.{true, cond};
 ghost use lib.ListN.{length, getD};
 ghost use Rattle.usb4.specs.Numbers.{tunnelNumber};
 ghost use Rattle.adapter.specs.Adapter.{factsRow, adapterSite, maxHopOutcome};
-ghost use Rattle.tunnel.specs.Tunnels.{discover};
+ghost use Rattle.tunnel.specs.Tunnels.{discover, oneDma};
 ghost use Rattle.tunnel.specs.Plans.{Plans, fromBy, pathsBy};
 ghost use Rattle.discovery.specs.Tables.{Discovered};
-ghost use Rattle.discovery.specs.Work.{PathPut, PlanPut, Marked, Idle, Tallies, RingPut, RingsPut, OneAnswered, Answered, dmaBy, tunnelBy, tallyOf, ringsEnd};
+ghost use Rattle.discovery.specs.Work.{PathPut, PlanPut, Marked, Idle, Quiet, Unasked, among, outHops, Tallies, RingPut, RingsPut, OneAnswered, Answered, dmaBy, tunnelBy, tallyOf, ringsEnd};
 use adapter::Facts;
 use adapter::MaxHop;
 use load::Refusal;
+use receive::Received;
 use refusal::Fault;
 use refusal::Site;
 use tables::AdapterFound;
 use tables::DeviceFound;
+use tables::EntryAt;
 use tunnel::Planned;
 use tunnel::Start;
 use usb4::TunnelType;
@@ -149,6 +151,81 @@ fn rings_end(most: u32) -> u32
     most + 1
 }
 
+// Whether an entry leaves by a HopID.
+fn leaves_by(entries: &[u64], hop: u16) -> bool
+    ensures { λ r. ⌜ r ≡ among hop (outHops (now (entries .entry))) ⌝ }
+{
+    let wanted = hop as u64;
+    let mut i: usize = 0;
+    while i < entries.len() {
+        if entries[i] % 65536 == wanted {
+            return true;
+        }
+        i += 1;
+    }
+    false
+}
+
+// Whether the search for a receive path is not refused for a ring that no entry leaves by. It goes alike for all of these, so one is asked: 65,535, which no ring of a survey by our descriptions is.
+fn is_quiet(entries: &[u64], adapters: &[u64], routes: &[u64], marks: &[u64]) -> bool
+    ensures { λ r. ⌜ (r ≡ true → Quiet (now (entries .entry)) (now (adapters .entry)) (now (routes .entry)) (now (marks .entry))) ⌝ }
+{
+    if leaves_by(entries, 65535) {
+        return false;
+    }
+    match receive::receive(entries, adapters, routes, marks, 65535) {
+        Received::Nothing => true,
+        Received::Lost => true,
+        Received::Refused(_) => false,
+        Received::Path {
+            place: _,
+            adapter: _,
+            hop: _,
+            hops: _,
+            out_place: _,
+            out_adapter: _,
+        } => false,
+    }
+}
+
+// Whether no entry leaves by a ring, and none stands at it.
+fn is_unasked(entries: &[u64], place: usize, adapter: u8, ring: u16) -> bool
+    ensures { λ r. ⌜ (r ≡ true → Unasked (now (entries .entry)) place adapter ring) ⌝ }
+{
+    if leaves_by(entries, ring) {
+        return false;
+    }
+    match search::find_entry(entries, place, adapter, ring) {
+        EntryAt::Missing => true,
+        EntryAt::Entry {
+            out_adapter: _,
+            out_hop: _,
+        } => false,
+    }
+}
+
+// A ring's tunnel: `one_dma`, but that most rings of a large host interface need no search.
+fn plan_ring(
+    entries: &[u64],
+    adapters: &[u64],
+    routes: &[u64],
+    marks: &[u64],
+    place: usize,
+    adapter: u8,
+    ring: u16,
+    quiet: bool,
+) -> Planned
+    requires { ⌜ (quiet ≡ true → Quiet (now entries) (now adapters) (now routes) (now marks)) ⌝ }
+    ensures { λ r. ⌜ Plans (now (entries .entry)) (now (adapters .entry)) (now (routes .entry)) (now (marks .entry)) place (λ x. oneDma x place adapter ring) r ⌝ }
+{
+    if quiet {
+        if is_unasked(entries, place, adapter, ring) {
+            return Planned::Absent;
+        }
+    }
+    tunnel::one_dma(entries, adapters, routes, marks, place, adapter, ring)
+}
+
 // Marks a ring that needs no words.
 fn mark(idle: &mut [u8; 64], ring: u32, words: usize)
     ensures { λ _. ⌜ Marked ring words (now (idle .entry)) (now (idle .exit)) ⌝ }
@@ -171,15 +248,16 @@ fn tally_rings(
     place: usize,
     adapter: u8,
     end: u32,
+    quiet: bool,
     idle: &mut [u8; 64],
 ) -> Tally
-    requires { ⌜ (1 ≤ end) × (end ≤ 65536) × Idle (now entries) (now adapters) (now routes) (now marks) place adapter (now idle) ⌝ }
+    requires { ⌜ (1 ≤ end) × (end ≤ 65536) × Idle (now entries) (now adapters) (now routes) (now marks) place adapter (now idle) × (quiet ≡ true → Quiet (now entries) (now adapters) (now routes) (now marks)) ⌝ }
     ensures { λ r. ⌜ Tallies (now (entries .entry)) (now (adapters .entry)) (now (routes .entry)) (now (marks .entry)) place adapter (end - 1) r × Idle (now (entries .entry)) (now (adapters .entry)) (now (routes .entry)) (now (marks .entry)) place adapter (now (idle .exit)) ⌝ }
 {
     let mut need: usize = 0;
     let mut ring: u32 = 1;
     while ring < end {
-        let plan = tunnel::one_dma(
+        let plan = plan_ring(
             entries,
             adapters,
             routes,
@@ -187,6 +265,7 @@ fn tally_rings(
             place,
             adapter,
             ring as u16,
+            quiet,
         );
         match tally_plan(plan) {
             Tally::Refused(refusal) => {
@@ -221,17 +300,18 @@ fn put_ring(
     place: usize,
     adapter: u8,
     ring: u32,
+    quiet: bool,
     idle: &[u8; 64],
     output: &mut [u32],
     at: usize,
 ) -> usize
-    requires { ⌜ (ring < 65536) × (at ≤ length (now output)) × Idle (now entries) (now adapters) (now routes) (now marks) place adapter (now idle) ⌝ }
+    requires { ⌜ (ring < 65536) × (at ≤ length (now output)) × Idle (now entries) (now adapters) (now routes) (now marks) place adapter (now idle) × (quiet ≡ true → Quiet (now entries) (now adapters) (now routes) (now marks)) ⌝ }
     ensures { λ r. ⌜ RingPut (now (entries .entry)) (now (adapters .entry)) (now (routes .entry)) (now (marks .entry)) place adapter ring at (now (output .entry)) r (now (output .exit)) ⌝ }
 {
     if is_idle(idle, ring) {
         return at;
     }
-    let plan = tunnel::one_dma(
+    let plan = plan_ring(
         entries,
         adapters,
         routes,
@@ -239,6 +319,7 @@ fn put_ring(
         place,
         adapter,
         ring as u16,
+        quiet,
     );
     put_plan(entries, adapters, routes, marks, plan, output, at)
 }
@@ -252,10 +333,11 @@ fn put_rings(
     place: usize,
     adapter: u8,
     end: u32,
+    quiet: bool,
     idle: &[u8; 64],
     output: &mut [u32],
 )
-    requires { ⌜ (1 ≤ end) × (end ≤ 65536) × Idle (now entries) (now adapters) (now routes) (now marks) place adapter (now idle) ⌝ }
+    requires { ⌜ (1 ≤ end) × (end ≤ 65536) × Idle (now entries) (now adapters) (now routes) (now marks) place adapter (now idle) × (quiet ≡ true → Quiet (now entries) (now adapters) (now routes) (now marks)) ⌝ }
     ensures { λ _. ⌜ RingsPut (now (entries .entry)) (now (adapters .entry)) (now (routes .entry)) (now (marks .entry)) place adapter (end - 1) (now (output .entry)) (now (output .exit)) ⌝ }
 {
     let mut at: usize = 0;
@@ -272,6 +354,7 @@ fn put_rings(
             place,
             adapter,
             ring,
+            quiet,
             idle,
             output,
             at,
@@ -342,6 +425,7 @@ fn put_dma(
         }))),
         MaxHop::Hop(largest) => {
             let end = rings_end(largest);
+            let quiet = is_quiet(entries, adapters, routes, marks);
             let mut idle = [0u8; 64];
             match tally_rings(
                 entries,
@@ -351,6 +435,7 @@ fn put_dma(
                 place,
                 adapter,
                 end,
+                quiet,
                 &mut idle,
             ) {
                 Tally::Refused(refusal) => TunnelsAnswer::Refused(refusal),
@@ -366,6 +451,7 @@ fn put_dma(
                         place,
                         adapter,
                         end,
+                        quiet,
                         &idle,
                         &mut output[..need],
                     );

@@ -9,19 +9,19 @@ use Rattle.discovery.proofs.tally_rings.Statement.{statement}
 use Rattle.discovery.proofs.tally_rings.Tie as tie
 
 abbrev Inv-loop : tie.InvT-loop
-Inv-loop entries adapters routes marks place adapter end idle₀ need₀ ring₀ idle need ring = Counted entries adapters routes marks place adapter end need ring × Idle entries adapters routes marks place adapter idle
+Inv-loop entries adapters routes marks place adapter end quiet idle₀ need₀ ring₀ idle need ring = Counted entries adapters routes marks place adapter end need ring × Idle entries adapters routes marks place adapter idle
 
 abbrev μ-loop : tie.MeasureT-loop
-μ-loop entries adapters routes marks place adapter end idle₀ need₀ ring₀ idle need ring = end - ring
+μ-loop entries adapters routes marks place adapter end quiet idle₀ need₀ ring₀ idle need ring = end - ring
 
 loop-holds : tie.Need-loop-holds Inv-loop μ-loop
 loop-holds c = let s = c .before .before .before .before in (counted-start _ _ _ _ _ _ _ (s .pre .0), s .pre .2)
 
-cast-one-dma : tie.Need-cast-one-dma Inv-loop μ-loop
-cast-one-dma c = omega (arith, c .loop-test .taken, c .before .before .before .before .before .before .pre .1)
+cast-plan-ring : tie.Need-cast-plan-ring Inv-loop μ-loop
+cast-plan-ring c = omega (arith, c .loop-test .taken, c .before .before .before .before .before .before .pre .1)
 
-one-dma-requires : tie.Need-one-dma-requires Inv-loop μ-loop
-one-dma-requires c κs = search needs
+plan-ring-requires : tie.Need-plan-ring-requires Inv-loop μ-loop
+plan-ring-requires c κs = c .before .before .before .before .before .before .pre .3
 
 tally-plan-requires : tie.Need-tally-plan-requires Inv-loop μ-loop
 tally-plan-requires c κs = search needs
@@ -30,13 +30,13 @@ enum-known-refusal : tie.Need-enum-known-refusal Inv-loop μ-loop
 enum-known-refusal c = search needs
 
 returns : tie.Need-returns Inv-loop μ-loop
-returns c = let m = c .before .before .before in (counted-refused _ _ _ _ _ _ _ _ _ (m .before .before .before .loop .inv .0) (m .before .before .loop-test .taken) _ (m .before .one-dma .ensures) _ (sym (m .tally-plan .ensures) ∙ c .before .refusal .given .1), m .before .before .before .loop .inv .1)
+returns c = let m = c .before .before .before in (counted-refused _ _ _ _ _ _ _ _ _ (m .before .before .before .loop .inv .0) (m .before .before .loop-test .taken) _ (m .before .plan-ring .ensures) _ (sym (m .tally-plan .ensures) ∙ c .before .refusal .given .1), m .before .before .before .loop .inv .1)
 
 enum-known-words : tie.Need-enum-known-words Inv-loop μ-loop
 enum-known-words c = search needs
 
 add-need : tie.Need-add-need Inv-loop μ-loop
-add-need c = let m = c .before .before .before in let l = c .before .before .before .before .before .before in omega (arith, l .loop .inv .0 .few, l .loop .inv .0 .to, l .before .before .before .before .before .pre .1, tally-few _ _ (sym (m .tally-plan .ensures) ∙ c .before .words .given .1) (m .before .one-dma .ensures .few))
+add-need c = let m = c .before .before .before in let l = c .before .before .before .before .before .before in omega (arith, l .loop .inv .0 .few, l .loop .inv .0 .to, l .before .before .before .before .before .pre .1, tally-few _ _ (sym (m .tally-plan .ensures) ∙ c .before .words .given .1) (m .before .plan-ring .ensures .few))
 
 mark-requires : tie.Need-mark-requires Inv-loop μ-loop
 mark-requires c κs = search needs
@@ -48,7 +48,7 @@ loop-less : tie.Need-loop-less Inv-loop μ-loop
 loop-less c = omega (arith, c .before .before .before .before .before .before .before .loop-test .taken)
 
 loop-again : tie.Need-loop-again Inv-loop μ-loop
-loop-again c = let m = c .before .before .before .before .before in let w = sym (m .tally-plan .ensures) ∙ c .before .before .before .words .given .1 in (counted-on _ _ _ _ _ _ _ _ _ (m .before .before .before .loop .inv .0) (m .before .before .loop-test .taken) _ (m .before .one-dma .ensures) _ w, idle-marked _ _ _ _ _ _ _ _ (m .before .before .before .loop .inv .1) _ _ (m .before .one-dma .ensures) _ w (c .mark .ensures))
+loop-again c = let m = c .before .before .before .before .before in let w = sym (m .tally-plan .ensures) ∙ c .before .before .before .words .given .1 in (counted-on _ _ _ _ _ _ _ _ _ (m .before .before .before .loop .inv .0) (m .before .before .loop-test .taken) _ (m .before .plan-ring .ensures) _ w, idle-marked _ _ _ _ _ _ _ _ (m .before .before .before .loop .inv .1) _ _ (m .before .plan-ring .ensures) _ w (c .mark .ensures))
 
 returns-2 : tie.Need-returns-2 Inv-loop μ-loop
 returns-2 c = (counted-end _ _ _ _ _ _ _ _ _ (c .before .loop .inv .0) (c .loop-test .left), c .before .loop .inv .1)
@@ -60,8 +60,8 @@ tally-rings-spec =
     Inv-loop
     μ-loop
     loop-holds
-    cast-one-dma
-    one-dma-requires
+    cast-plan-ring
+    plan-ring-requires
     tally-plan-requires
     enum-known-refusal
     returns
