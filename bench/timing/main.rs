@@ -41,9 +41,14 @@ fn best(rounds: usize, calls: &[Call]) -> Vec<f64> {
 
 /// Writes a row: its table, its series, its size, numbers that say more of it, and the times of the calls.
 pub fn row(rounds: usize, table: &str, series: &str, size: usize, numbers: &[(&str, usize)], calls: &[Call]) {
+    row_of(1, rounds, table, series, size, numbers, calls)
+}
+
+/// The same of calls that each do so many things: the time of one.
+pub fn row_of(times: usize, rounds: usize, table: &str, series: &str, size: usize, numbers: &[(&str, usize)], calls: &[Call]) {
     print!("{table}\t{series}\t{size}");
     numbers.iter().for_each(|(name, n)| print!("\t{name}={n}"));
-    calls.iter().zip(best(rounds, calls)).for_each(|((name, _), t)| print!("\t{name}={t:.6}"));
+    calls.iter().zip(best(rounds, calls)).for_each(|((name, _), t)| print!("\t{name}={:.6}", t / times as f64));
     println!();
 }
 

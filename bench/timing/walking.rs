@@ -5,7 +5,7 @@ use std::hint::black_box;
 use tbtools::tunnel::{self, Tunnel};
 use tbtools::{Device, debugfs};
 
-use crate::row;
+use crate::row_of;
 use crate::surveys::{Router, dumps, entries, kernel, loaded, make, steps, words};
 
 #[link(name = "timing", kind = "static")]
@@ -39,7 +39,22 @@ unsafe extern "C" {
         adapter: u8,
         hop: u16,
     ) -> u64;
+    fn walks_on(
+        entries: *const u64,
+        entry_count: usize,
+        adapters: *const u64,
+        adapter_count: usize,
+        routes: *const u64,
+        route_count: usize,
+        marks: *const u64,
+        mark_count: usize,
+        starts: *const u64,
+        start_count: usize,
+    ) -> usize;
 }
+
+/// How many walks a call does, on each side: so a row is a walk's time, without the way in which another language is called.
+const WALKS: usize = 16;
 
 // ---- both sides ---------------------------------------------------------------------------
 
@@ -93,18 +108,41 @@ struct Start {
     place: usize,
     adapter: u8,
     hop: u16,
+    starts: [u64; WALKS],
 }
 
 impl Start {
     fn new(name: &str, routers: &[Router], place: usize, adapter: u8, hop: u16) -> Self {
         make(&dumps(name, routers));
-        let start = Start { tables: Tables::of(&words(routers)), devices: loaded(name, routers), place, adapter, hop };
+        let starts = [(place as u64) << 24 | (adapter as u64) << 16 | hop as u64; WALKS];
+        let start = Start { tables: Tables::of(&words(routers)), devices: loaded(name, routers), place, adapter, hop, starts };
         assert_eq!(start.ours(), start.expected(), "not where the Rust comes");
+        assert_eq!(start.most() as u64, start.ours() >> 48, "not so many hops");
         start
     }
 
     fn ours(&self) -> u64 {
         self.tables.walk(self.place, self.adapter, self.hop)
+    }
+
+    /// The most hops of the walks from all the starts.
+    fn most(&self) -> usize {
+        let t = &self.tables;
+        let starts = black_box(&self.starts);
+        unsafe {
+            walks_on(
+                t.entries.as_ptr(),
+                t.entries.len(),
+                t.adapters.as_ptr(),
+                t.adapters.len(),
+                t.routes.as_ptr(),
+                t.routes.len(),
+                t.marks.as_ptr(),
+                t.marks.len(),
+                starts.as_ptr(),
+                starts.len(),
+            )
+        }
     }
 
     /// The Rust's adapter, which its walk is given.
@@ -116,8 +154,8 @@ impl Start {
         Tunnel::discover_path("walk", &self.devices[self.place], adapter, black_box(self.hop), &self.devices)
     }
 
-    fn its(&self, adapter: &debugfs::Adapter) -> u64 {
-        self.its_path(adapter).map_or(0, |p| p.hops().len() as u64)
+    fn its_most(&self, adapter: &debugfs::Adapter) -> usize {
+        (0..WALKS).map(|_| self.its_path(black_box(adapter)).map_or(0, |p| p.hops().len())).max().unwrap()
     }
 
     /// The Rust's answer, as `walk_on` gives it.
@@ -136,13 +174,14 @@ pub fn run(rounds: usize) {
     let time = |series: &str, size: usize, start: &Start| {
         let adapter = start.its_adapter();
         let there = adapter.paths().map_or(0, |p| p.len());
-        row(
+        row_of(
+            WALKS,
             rounds,
             "walks",
             series,
             size,
             &[("hops", (start.ours() >> 48) as usize), ("entries", start.tables.entries.len()), ("there", there)],
-            &[("ours", &|| start.ours() as usize), ("rust", &|| start.its(adapter) as usize)],
+            &[("ours", &|| start.most()), ("rust", &|| start.its_most(adapter))],
         );
     };
     let none: [(&str, Vec<Router>, u8, u16); 4] = [
