@@ -21,6 +21,7 @@ use Rattle.walk.specs.Tables.{rowsOf, lastOf}
 use Rattle.walk.proofs.Laws.{hopped, walk-ends}
 use Rattle.path.specs.Put.{Sized}
 use Rattle.receive.specs.Receive.{at, Lane, Lane.lane, Lane.passed, Lane.dropped, laneOf, atLane, Receive, Receive.received, Receive.nothing, Receive.lost, usesRing, orRest, orNext, amongHops, amongDevices, receive}
+use Rattle.receive.proofs.Hops.{no-entry, walk-none}
 use Rattle.tunnel.specs.Tunnels.{Tunnel, txPath, withPaths, ringTunnel, oneDma, rings}
 use Rattle.discovery.specs.Work.{ringsEnd, among, outHops, Quiet, Unasked}
 use Rattle.discovery.proofs.Rings.{rings-split}
@@ -196,20 +197,9 @@ module _ (en ad ro ma : List ℕ) where
   abbrev x : Rows
   x = rowsOf en ad ro ma
 
-  past-entry : (l : List ℕ) (p a h : ℕ) → 65535 < h → entryIn (entriesIn l) p a h ≡ none
-  unfolding entryIn entryWord
-  past-entry [] p a h k = refl
-  past-entry (w ∷ l) p a h k = ap (λ b. cond (eqb (w / 2 ^ 48) p && eqb (w / 2 ^ 40 % 256) a && b) (some (entryWord w)) (entryIn (entriesIn l) p a h)) (ne-eqb (w / 2 ^ 24 % 65536) h (λ e. omega arith)) ∙ go (eqb (w / 2 ^ 48) p && eqb (w / 2 ^ 40 % 256) a) ∙ past-entry l p a h k
-    where
-      go : (b : Bool) → cond (b && false) (some (entryWord w)) (entryIn (entriesIn l) p a h) ≡ entryIn (entriesIn l) p a h
-      go true = refl
-      go false = refl
-
   past-walk : (p a h : ℕ) → 65535 < h → walkFrom x (at p a h) ≡ value none
-  unfolding rowsOf rowsWith walkOn settled pathOf at hopsN
-  past-walk p a h k =
-      let w = reach-stops (walkOn x) (at p a h) (reach-start (walkOn x) (at p a h)) (past-entry en p a h k) in
-      walk-ends x (at p a h) (w .0) ∙ ap (settled []) (w .1)
+  unfolding rowsOf rowsWith at
+  past-walk p a h k = walk-none x (at p a h) (no-entry en p a h k)
 
   past-out : (l : List ℕ) (v : ℕ) → 65535 < v → among v (outs (entriesIn l)) ≡ false
   unfolding among entryWord

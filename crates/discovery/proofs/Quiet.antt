@@ -66,9 +66,10 @@ module _ (en ad ro ma : List ℕ) where
   -- one ring's, for all that no entry leaves by
   pub quiet : (w : ℕ) (r : Received) (s : Said) → among w (outHops en) ≡ false → Receives en ad ro ma w r → receivedOutcome w r ≡ value s → Quiet en ad ro ma
   unfolding rowsOf rowsWith outHops
-  quiet w r s n f e = record { searched = λ t v m.
-      let y = said-value (receive (rowsOf en ad ro ma) w) s (sym e ∙ f .answers t) in
-      (y .0, receive-alike (rowsOf en ad ro ma) v w (unused (rowsOf en ad ro ma) v m) (unused (rowsOf en ad ro ma) w n) ∙ y .1);
+  quiet w r s n f e = record {
+    searched = λ t v m.
+        let y = said-value (receive (rowsOf en ad ro ma) w) s (sym e ∙ f .answers t) in
+        (y .0, receive-alike (rowsOf en ad ro ma) v w (unused (rowsOf en ad ro ma) v m) (unused (rowsOf en ad ro ma) w n) ∙ y .1);
   }
 
   -- such a ring has no tunnel where no entry stands at it

@@ -21,7 +21,7 @@ use Rattle.tunnel.specs.Words.{tunnelWords, tunnelsWords}
 use Rattle.tunnel.specs.Plans.{Plan, fromBy, planOf, planIf, plannedOutcome, wordsBy, Plans}
 use Rattle.tunnel.specs.declared.Planned.{Planned}
 use Rattle.tunnel.specs.declared.Planned.the-variants as planned
-use Rattle.discovery.specs.Work.{Wrote, tallyOf, tallied, Marked, Idle, Tallies, RingPut, RingsPut, PlanPut}
+use Rattle.discovery.specs.Work.{Wrote, tallyOf, tallied, Marked, Idle, Drafted, Tallies, RingPut, RingsPut, PlanPut}
 use Rattle.discovery.specs.declared.Tally.the-variants as tally
 use Rattle.discovery.proofs.Walks.{one-dma-walks}
 use Rattle.discovery.proofs.Writing.{wrote-nothing, wrote-front}
@@ -146,6 +146,20 @@ module _ (en ad ro ma : List ℕ) (p a : ℕ) where
     words = λ z t q o e room. w .words z t o (f .answers z t q ∙ ap (λ y. bind y (λ t. value (planIf t))) e) (one-dma-walks (rowsOf en ad ro ma) p a ring o e) room;
   }
 
+-- rings that are refused have no words to draft
+pub drafted-refused : (en ad ro ma : List ℕ) (p a k : ℕ) (r : Refusal) → Tallies en ad ro ma p a k (tally.Refused r) → (draft : List ℕ) → Drafted en ad ro ma p a k draft
+unfolding tallied bind
+drafted-refused en ad ro ma p a k r t draft = record {
+  words = λ z l q ts e n. absurd (let y = refused-as (value (length (tunnelsWords ts))) r (t .counts z l q ∙ ap (λ o. bind o (λ us. value (length (tunnelsWords us)))) e) in let v = y .2 in let u : _≡_ {A = ℕ} 0 1 = cc in omega arith);
+}
+
+-- what was drafted is put
+pub drafted-put : (en ad ro ma : List ℕ) (p a k : ℕ) (draft out : List ℕ) → Drafted en ad ro ma p a k draft → length out ≤ length draft → (out′ : List ℕ) → out′ ≡ take (length out) draft → RingsPut en ad ro ma p a k out out′
+drafted-put en ad ro ma p a k draft out d l out′ f = record {
+  long = ap length f ∙ length-take-le (length out) draft l;
+  words = λ z t q ts e n. f ∙ ap (λ j. take j draft) n ∙ d .words z t q ts e (omega (arith, n));
+}
+
 -- ---- the tally
 
 module _ (en ad ro ma : List ℕ) (p a end : ℕ) where
@@ -200,23 +214,35 @@ module _ (en ad ro ma : List ℕ) (p a end : ℕ) where
     pub to : ring ≤ end
     pub within : at ≤ length out
     pub long : length out ≡ length out₀
-    pub rest : Sized en ro → Tabled en ad ro → p < 65536 → (ts : List Tunnel) → rings (rowsOf en ad ro ma) p a 1 (end - 1) ≡ value ts → length out₀ ≡ length (tunnelsWords ts)
+    pub rest : Sized en ro → Tabled en ad ro → p < 65536 → (ts : List Tunnel) → rings (rowsOf en ad ro ma) p a 1 (end - 1) ≡ value ts → length (tunnelsWords ts) ≤ length out₀
         → (us : List Tunnel) × (rings (rowsOf en ad ro ma) p a ring (end - ring) ≡ value us) × (take at out ++ tunnelsWords us ≡ tunnelsWords ts)
 
   pub putting-start : (out : List ℕ) → 1 ≤ end → Putting out 0 1 out
   putting-start out l = record { from = omega arith; to = l; within = omega arith; long = refl; rest = λ z t q ts e n. (ts, e, refl) }
 
   module _ (out₀ : List ℕ) (at ring : ℕ) (out : List ℕ) (c : Putting out₀ at ring out) where
-    pub putting-end : end ≤ ring → RingsPut en ad ro ma p a (end - 1) out₀ out
+    -- no ring is left
+    put-all : end ≤ ring → Sized en ro → Tabled en ad ro → p < 65536 → (ts : List Tunnel) → rings (rowsOf en ad ro ma) p a 1 (end - 1) ≡ value ts → length (tunnelsWords ts) ≤ length out₀ → take at out ≡ tunnelsWords ts
     unfolding rings tunnelsWords
+    put-all l z t q ts e n =
+        let y = c .rest z t q ts e n in
+        let k : value [] ≡ value (y .0) = ap (rings (rowsOf en ad ro ma) p a ring) (let v : 0 ≡ end - ring = omega arith in v) ∙ y .1 in
+        let none-left : [] ≡ y .0 = cc in
+        sym (append-nil (take at out)) ∙ ap (λ us. take at out ++ tunnelsWords us) none-left ∙ y .2
+
+    pub putting-end : end ≤ ring → RingsPut en ad ro ma p a (end - 1) out₀ out
     putting-end l = record {
       long = c .long;
       words = λ z t q ts e n.
-          let y = c .rest z t q ts e n in
-          let k : value [] ≡ value (y .0) = ap (rings (rowsOf en ad ro ma) p a ring) (let v : 0 ≡ end - ring = omega arith in v) ∙ y .1 in
-          let none-left : [] ≡ y .0 = cc in
-          let whole : take at out ≡ tunnelsWords ts = sym (append-nil (take at out)) ∙ ap (λ us. take at out ++ tunnelsWords us) none-left ∙ y .2 in
+          let whole = put-all l z t q ts e (omega (arith, n)) in
           sym (take-all at out (omega (arith, n, c .long, ap length whole, length-take-le at out (c .within)))) ∙ whole;
+    }
+
+    pub putting-drafted : end ≤ ring → Drafted en ad ro ma p a (end - 1) out
+    putting-drafted l = record {
+      words = λ z t q ts e n.
+          let whole = put-all l z t q ts e (omega (arith, n, c .long)) in
+          ap (λ k. take k out) (let v : length (tunnelsWords ts) ≡ at = omega (arith, ap length whole, length-take-le at out (c .within)) in v) ∙ whole;
     }
 
     -- no words are left
@@ -224,13 +250,13 @@ module _ (en ad ro ma : List ℕ) (p a end : ℕ) where
     putting-full l = record {
       long = c .long;
       words = λ z t q ts e n.
-          let y = c .rest z t q ts e n in
+          let y = c .rest z t q ts e (omega (arith, n)) in
           let whole : out ++ tunnelsWords (y .0) ≡ tunnelsWords ts = ap (λ k. k ++ tunnelsWords (y .0)) (sym (take-all at out l)) ∙ y .2 in
           sym (append-nil out) ∙ ap (λ k. out ++ k) (sym (no-length (tunnelsWords (y .0)) (omega (arith, n, c .long, ap length whole, length-append out (tunnelsWords (y .0)))))) ∙ whole;
     }
 
     -- the words of the next ring are put before those that are left
-    module _ (r : ℕ) (out′ : List ℕ) (w : RingPut en ad ro ma p a ring at out r out′) (z : Sized en ro) (l : Tabled en ad ro) (q : p < 65536) (ts us vs : List Tunnel) (t : Option Tunnel) (n : length out₀ ≡ length (tunnelsWords ts))
+    module _ (r : ℕ) (out′ : List ℕ) (w : RingPut en ad ro ma p a ring at out r out′) (z : Sized en ro) (l : Tabled en ad ro) (q : p < 65536) (ts us vs : List Tunnel) (t : Option Tunnel) (n : length (tunnelsWords ts) ≤ length out₀)
         (whole : take at out ++ tunnelsWords us ≡ tunnelsWords ts) (e : us ≡ Option·toList t ++ vs) (d : oneDma (rowsOf en ad ro ma) p a ring ≡ value t) where
       split : tunnelsWords us ≡ tunnelsWords (Option·toList t) ++ tunnelsWords vs
       split = ap tunnelsWords e ∙ tunnels-append (Option·toList t) vs
@@ -252,7 +278,7 @@ module _ (en ad ro ma : List ℕ) (p a end : ℕ) where
       rest = λ z l q ts e n. go z l q ts n (c .rest z l q ts e n);
     }
       where
-        go : Sized en ro → Tabled en ad ro → p < 65536 → (ts : List Tunnel) → length out₀ ≡ length (tunnelsWords ts) → (us : List Tunnel) × (rings (rowsOf en ad ro ma) p a ring (end - ring) ≡ value us) × (take at out ++ tunnelsWords us ≡ tunnelsWords ts)
+        go : Sized en ro → Tabled en ad ro → p < 65536 → (ts : List Tunnel) → length (tunnelsWords ts) ≤ length out₀ → (us : List Tunnel) × (rings (rowsOf en ad ro ma) p a ring (end - ring) ≡ value us) × (take at out ++ tunnelsWords us ≡ tunnelsWords ts)
             → (vs : List Tunnel) × (rings (rowsOf en ad ro ma) p a (ring + 1) (end - (ring + 1)) ≡ value vs) × (take r out′ ++ tunnelsWords vs ≡ tunnelsWords ts)
         go z l q ts n (us, e, whole) = next (rings-split (rowsOf en ad ro ma) p a ring (end - (ring + 1)) us (ap (rings (rowsOf en ad ro ma) p a ring) (let v : suc (end - (ring + 1)) ≡ end - ring = omega arith in v) ∙ e))
           where

@@ -98,6 +98,10 @@ pub record Unasked (en : List ℕ) (p a ring : ℕ) : Type 0 where
 pub record Tallies (en ad ro ma : List ℕ) (p a k : ℕ) (r : Tally) : Type 0 where
   pub counts : Sized en ro → Tabled en ad ro → p < 65536 → tallied r ≡ bind (rings (rowsOf en ad ro ma) p a 1 k) (λ ts. value (length (tunnelsWords ts)))
 
+-- the words of the tunnels of k rings from 1 on stand at the front, where there is room for them
+pub record Drafted (en ad ro ma : List ℕ) (p a k : ℕ) (draft : List ℕ) : Type 0 where
+  pub words : Sized en ro → Tabled en ad ro → p < 65536 → (ts : List Tunnel) → rings (rowsOf en ad ro ma) p a 1 k ≡ value ts → length (tunnelsWords ts) ≤ length draft → take (length (tunnelsWords ts)) draft ≡ tunnelsWords ts
+
 -- the tunnel of a ring, if it has one
 pub record RingPut (en ad ro ma : List ℕ) (p a ring at : ℕ) (out : List ℕ) (r : ℕ) (out′ : List ℕ) : Type 0 where
   pub within : r ≤ length out

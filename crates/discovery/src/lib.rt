@@ -8,7 +8,7 @@ ghost use Rattle.adapter.specs.Adapter.{factsRow, adapterSite, maxHopOutcome};
 ghost use Rattle.tunnel.specs.Tunnels.{discover, oneDma};
 ghost use Rattle.tunnel.specs.Plans.{Plans, fromBy, pathsBy};
 ghost use Rattle.discovery.specs.Tables.{Discovered};
-ghost use Rattle.discovery.specs.Work.{PathPut, PlanPut, Marked, Idle, Quiet, Unasked, among, outHops, Tallies, RingPut, RingsPut, OneAnswered, Answered, dmaBy, tunnelBy, tallyOf, ringsEnd};
+ghost use Rattle.discovery.specs.Work.{PathPut, PlanPut, Marked, Idle, Quiet, Unasked, among, outHops, Drafted, Tallies, RingPut, RingsPut, OneAnswered, Answered, dmaBy, tunnelBy, tallyOf, ringsEnd};
 use adapter::Facts;
 use adapter::MaxHop;
 use load::Refusal;
@@ -239,7 +239,7 @@ fn mark(idle: &mut [u8; 64], ring: u32, words: usize)
     idle[ring as usize] = 1;
 }
 
-// The words of the tunnels of rings 1 to `end`, which is left out; the rings that have none are marked.
+// The words of the tunnels of rings 1 to `end`, which is left out; the rings that have none are marked, and the words are drafted as far as there is room.
 fn tally_rings(
     entries: &[u64],
     adapters: &[u64],
@@ -250,10 +250,13 @@ fn tally_rings(
     end: u32,
     quiet: bool,
     idle: &mut [u8; 64],
+    draft: &mut [u32],
 ) -> Tally
     requires { ⌜ (1 ≤ end) × (end ≤ 65536) × Idle (now entries) (now adapters) (now routes) (now marks) place adapter (now idle) × (quiet ≡ true → Quiet (now entries) (now adapters) (now routes) (now marks)) ⌝ }
     ensures { λ r. ⌜ Tallies (now (entries .entry)) (now (adapters .entry)) (now (routes .entry)) (now (marks .entry)) place adapter (end - 1) r × Idle (now (entries .entry)) (now (adapters .entry)) (now (routes .entry)) (now (marks .entry)) place adapter (now (idle .exit)) ⌝ }
+    ensures { λ r. ⌜ Drafted (now (entries .entry)) (now (adapters .entry)) (now (routes .entry)) (now (marks .entry)) place adapter (end - 1) (now (draft .exit)) ⌝ }
 {
+    let mut at: usize = 0;
     let mut need: usize = 0;
     let mut ring: u32 = 1;
     while ring < end {
@@ -274,6 +277,7 @@ fn tally_rings(
             Tally::Words(words) => {
                 need += words;
                 mark(idle, ring, words);
+                at = put_plan(entries, adapters, routes, marks, plan, draft, at);
             }
         }
         ring += 1;
@@ -363,6 +367,54 @@ fn put_rings(
     }
 }
 
+// Copies a list of words.
+fn copy(from: &[u32], to: &mut [u32])
+    requires { ⌜ length (now from) ≡ length (now to) ⌝ }
+    ensures { λ _. ⌜ now (to .exit) ≡ now (from .entry) ⌝ }
+{
+    let mut i: usize = 0;
+    while i < to.len() {
+        to[i] = from[i];
+        i += 1;
+    }
+}
+
+// Writes the tunnels of rings 1 to `end`, which is left out: as they were drafted, if there was room for them.
+fn put_tallied(
+    entries: &[u64],
+    adapters: &[u64],
+    routes: &[u64],
+    marks: &[u64],
+    place: usize,
+    adapter: u8,
+    end: u32,
+    quiet: bool,
+    idle: &[u8; 64],
+    draft: &[u32],
+    output: &mut [u32],
+)
+    requires { ⌜ (1 ≤ end) × (end ≤ 65536) × Idle (now entries) (now adapters) (now routes) (now marks) place adapter (now idle) × (quiet ≡ true → Quiet (now entries) (now adapters) (now routes) (now marks)) × Drafted (now entries) (now adapters) (now routes) (now marks) place adapter (end - 1) (now draft) ⌝ }
+    ensures { λ _. ⌜ RingsPut (now (entries .entry)) (now (adapters .entry)) (now (routes .entry)) (now (marks .entry)) place adapter (end - 1) (now (output .entry)) (now (output .exit)) ⌝ }
+{
+    let need = output.len();
+    if need <= draft.len() {
+        copy(&draft[..need], output);
+        return;
+    }
+    put_rings(
+        entries,
+        adapters,
+        routes,
+        marks,
+        place,
+        adapter,
+        end,
+        quiet,
+        idle,
+        output,
+    );
+}
+
 // The tunnel of an adapter that has one at most.
 fn put_one(
     entries: &[u64],
@@ -427,6 +479,7 @@ fn put_dma(
             let end = rings_end(largest);
             let quiet = is_quiet(entries, adapters, routes, marks);
             let mut idle = [0u8; 64];
+            let mut draft = [0u32; 512]; // of some 70 rings
             match tally_rings(
                 entries,
                 adapters,
@@ -437,13 +490,14 @@ fn put_dma(
                 end,
                 quiet,
                 &mut idle,
+                &mut draft,
             ) {
                 Tally::Refused(refusal) => TunnelsAnswer::Refused(refusal),
                 Tally::Words(need) => {
                     if output.len() < need {
                         return TunnelsAnswer::Short(need);
                     }
-                    put_rings(
+                    put_tallied(
                         entries,
                         adapters,
                         routes,
@@ -453,6 +507,7 @@ fn put_dma(
                         end,
                         quiet,
                         &idle,
+                        &draft,
                         &mut output[..need],
                     );
                     TunnelsAnswer::Words(need)
