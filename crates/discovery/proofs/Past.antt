@@ -1,5 +1,5 @@
 -- No entry has a HopID above 65,535: rings past it have no tunnel, and are refused only where another ring is. Assumes nothing.
-use Prim.Native.Nat.{ℕ, zero, suc, _+_, _-_, _/_, _%_, _^_, _≤_, _<_}
+use Prim.Native.Nat.{ℕ, zero, suc, _+_, _-_, _%_, _≤_, _<_}
 use mathlib.Core.Path.{_≡_, refl, sym, ap, _∙_, subst}
 use mathlib.Core.Bool.{Bool, true, false, cond, _&&_, _||_, true≢false, false≢true}
 use mathlib.Core.List.{List, [], _∷_, _++_, map, Option·toList}
@@ -12,18 +12,17 @@ use borrow.Author.Tests.{lt-ltb, le-ltb, ne-eqb, eqb-true, eq-eqb}
 use Rattle.refusal.specs.Outcome.{Outcome, refused, value, bind}
 use Rattle.tables.specs.Rows.{EntryRow, DeviceRow, Rows, entryIn}
 use Rattle.tables.specs.Packed.{entryWord, entriesIn}
-use Rattle.orbit.specs.Walk.{hopsN}
-use Rattle.orbit.proofs.Orbit.{reach-start, reach-stops, hop-to-make, hop-at}
+use Rattle.orbit.proofs.Orbit.{hop-to-make, hop-at}
 use Rattle.fabric.specs.Tables.{rowsWith}
-use Rattle.walk.specs.Walking.{Stand, walkOn, pathOf}
-use Rattle.walk.specs.Rule.{settled, walkFrom}
+use Rattle.walk.specs.Walking.{Stand, walkOn}
+use Rattle.walk.specs.Rule.{walkFrom}
 use Rattle.walk.specs.Tables.{rowsOf, lastOf}
-use Rattle.walk.proofs.Laws.{hopped, walk-ends}
+use Rattle.walk.proofs.Laws.{hopped}
 use Rattle.path.specs.Put.{Sized}
 use Rattle.receive.specs.Receive.{at, Lane, Lane.lane, Lane.passed, Lane.dropped, laneOf, atLane, Receive, Receive.received, Receive.nothing, Receive.lost, usesRing, orRest, orNext, amongHops, amongDevices, receive}
 use Rattle.receive.proofs.Hops.{no-entry, walk-none}
 use Rattle.tunnel.specs.Tunnels.{Tunnel, txPath, withPaths, ringTunnel, oneDma, rings}
-use Rattle.discovery.specs.Work.{ringsEnd, among, outHops, Quiet, Unasked}
+use Rattle.discovery.specs.Work.{ringsEnd, among}
 use Rattle.discovery.proofs.Rings.{rings-split}
 
 -- ---- of more rings than entries, one is no entry's out HopID

@@ -2,8 +2,8 @@
 use Prim.Native.Nat.{ℕ, suc, _+_, _%_, _≤_, _<_}
 use mathlib.Core.Path.{_≡_, refl, sym, ap, _∙_}
 use mathlib.Core.Bool.{Bool, true, false, _||_}
-use mathlib.Core.List.{List, [], _∷_}
-use mathlib.Core.Option.{Option, none, some}
+use mathlib.Core.List.{List}
+use mathlib.Core.Option.{none}
 use native.Mathlib.Omega.{arith}
 use native.Mathlib.Numerals.{add-one}
 use lib.Dec.{eqb}
@@ -15,12 +15,8 @@ use Rattle.tables.specs.Packed.{entryWord}
 use Rattle.tables.specs.Found.{entryFound, EntrySought}
 use Rattle.tables.specs.declared.EntryAt.{EntryAt}
 use Rattle.tables.specs.declared.EntryAt.the-variants as entry
-use Rattle.load.specs.Answers.{refusedBy}
-use Rattle.load.specs.declared.Refusal.{Refusal}
 use Rattle.fabric.specs.Tables.{rowsWith}
 use Rattle.walk.specs.Tables.{rowsOf, Tabled}
-use Rattle.path.specs.Put.{Sized}
-use Rattle.path.proofs.Writing.{refused-as}
 use Rattle.receive.specs.Receive.{at, Receive, receive}
 use Rattle.receive.specs.Tables.{Said, saidOf, receivedOutcome, Receives}
 use Rattle.receive.specs.declared.Received.{Received}
