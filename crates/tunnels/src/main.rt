@@ -1,10 +1,13 @@
 // Reads the text of a survey from standard input and prints its tunnels, by our descriptions; or only `refused N`.
+ghost use Prim.Native.Nat.{_≤_};
 ghost use mathlib.Core.Path.{_≡_};
 ghost use lib.ListN.{length};
+ghost use Rattle.program.specs.Opened.{UsedBy};
 use libc::STDIN_FILENO;
 use libc::STDOUT_FILENO;
 use printed::Printed;
 use program::OpenAnswer;
+use program::Opened;
 use report::Page;
 
 // One byte more than a text may have, so that a longer one is seen. The contract says the length alone, which lending it as a slice needs.
@@ -50,7 +53,7 @@ fn write_long_page(entries: &[u64], adapters: &[u64], routes: &[u64], marks: &[u
     }
 }
 
-// Writes an adapter's lines. None is refused here, since each was tried.
+// Writes an adapter's lines, and says whether the buffer has room for them; where it hasn't, nothing is written. None is refused here, since each was tried.
 fn write_page(
     entries: &[u64],
     adapters: &[u64],
@@ -58,37 +61,71 @@ fn write_page(
     marks: &[u64],
     index: usize,
     buffer: &mut [u8],
-) {
+) -> bool {
     match report::put_page(entries, adapters, routes, marks, index, buffer) {
         Page::Bytes(n) => {
             io::write_all(STDOUT_FILENO, &buffer[..n]);
+            true
         }
-        Page::Short(_) => {
-            write_long_page(entries, adapters, routes, marks, index);
-        }
-        Page::Refused(_) => {}
+        Page::Short(_) => false,
+        Page::Refused(_) => true,
     }
 }
 
-// Writes each adapter's lines in order.
+// Writes the lines of the adapters from one to before another, in order. It goes by halves and not by a loop: the compiler puts no large room into the frame of a function that calls itself. Otherwise the largest room would be in the frame of `main`, of which every page is touched in every run.
 fn write_pages(
     entries: &[u64],
     adapters: &[u64],
     routes: &[u64],
     marks: &[u64],
+    from: usize,
+    end: usize,
     buffer: &mut [u8],
 ) {
-    let mut index = 0;
-    while index < adapters.len() {
-        write_page(entries, adapters, routes, marks, index, buffer);
-        index += 1;
+    if end <= from {
+        return;
     }
+    let middle = from + (end - from) / 2;
+    write_pages(entries, adapters, routes, marks, from, middle, buffer);
+    if !write_page(entries, adapters, routes, marks, middle, buffer) {
+        write_long_page(entries, adapters, routes, marks, middle);
+    }
+    write_pages(entries, adapters, routes, marks, middle + 1, end, buffer);
 }
 
-// Nothing is written before all adapters were tried.
-fn write_text(text: &[u8]) {
-    let opened = program::open(text);
+// Writes each adapter's lines, by the parts of the tables that are used.
+fn write_tables(
+    paths: &[u64],
+    table: &[u64],
+    routes: &[u64],
+    marks: &[u64],
+    entries: usize,
+    adapters: usize,
+    devices: usize,
+)
+    requires { ⌜ (entries ≤ length (now paths)) × (adapters ≤ length (now table)) × (devices ≤ length (now routes)) × (devices ≤ length (now marks)) ⌝ }
+{
+    let mut buffer = small_room();
+    write_pages(
+        &paths[..entries],
+        &table[..adapters],
+        &routes[..devices],
+        &marks[..devices],
+        0,
+        adapters,
+        &mut buffer,
+    );
+}
+
+// Writes the lines of a text that was opened, or its refusal. This is a function of its own, whose tables begin to live when loading's have ended: the compiler then gives both the same stack.
+fn write_opened(opened: Opened)
+    requires { ⌜ UsedBy opened (opened .answer) ⌝ }
+{
     let answer = opened.answer;
+    let paths = opened.entries;
+    let table = opened.adapters;
+    let routes = opened.routes;
+    let marks = opened.marks;
     match answer {
         OpenAnswer::Refused(numbers) => write_refused(numbers.number),
         OpenAnswer::Tables {
@@ -98,20 +135,19 @@ fn write_text(text: &[u8]) {
             tunnels,
         } => {
             write_total(tunnels);
-            let paths = opened.entries;
-            let table = opened.adapters;
-            let routes = opened.routes;
-            let marks = opened.marks;
-            let mut buffer = small_room();
-            write_pages(
-                &paths[..entries],
-                &table[..adapters],
-                &routes[..devices],
-                &marks[..devices],
-                &mut buffer,
-            );
+            let p = &paths;
+            let t = &table;
+            let r = &routes;
+            let m = &marks;
+            write_tables(p, t, r, m, entries, adapters, devices);
         }
     }
+}
+
+// Nothing is written before all adapters were tried.
+fn write_text(text: &[u8]) {
+    let opened = program::open(text);
+    write_opened(opened);
 }
 
 fn main() {

@@ -24,9 +24,6 @@ write-all-requires c κs = search needs
 enum-told : tie.Need-enum-told
 enum-told c = search needs
 
-write-long-page-requires : tie.Need-write-long-page-requires
-write-long-page-requires c κs = search needs
-
 enum-told-2 : tie.Need-enum-told-2
 enum-told-2 c = search needs
 
@@ -58,7 +55,6 @@ write-page-spec =
     slice-aggregate-write-all
     write-all-requires
     enum-told
-    write-long-page-requires
     enum-told-2
     same-length
     returns
