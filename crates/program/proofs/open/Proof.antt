@@ -1,9 +1,7 @@
-use mathlib.Core.Path.{sym, ap}
+use mathlib.Core.Path.{sym}
 use native.Mathlib.Omega.{arith}
 use lib.Seq.{length-take-le}
-use Rattle.text.specs.Text.{textOutcome}
-use Rattle.program.proofs.Reading.{text-refused, text-words}
-use Rattle.program.proofs.Opening.{opens-refused, opens-words}
+use Rattle.program.proofs.Opening.{few-words, opens-read}
 use borrow.Author.Needs.{needs}
 use Rattle.program.proofs.open.Statement.{statement}
 use Rattle.program.proofs.open.Tie as tie
@@ -14,50 +12,34 @@ slice-aggregate-read c = search needs
 read-requires : tie.Need-read-requires
 read-requires c κs = search needs
 
-enum-known-n : tie.Need-enum-known-n
-enum-known-n c = search needs
+words-in-requires : tie.Need-words-in-requires
+words-in-requires c κs = search needs
+
+ours-requires : tie.Need-ours-requires
+ours-requires c κs = search needs
+
+slice-aggregate-load : tie.Need-slice-aggregate-load
+slice-aggregate-load c = search needs
 
 array-share-prefix-survey : tie.Need-array-share-prefix-survey
-array-share-prefix-survey c = omega (arith, (let k = c .before in text-words _ _ (search needs) _ _ (k .before .before .before .read .ensures) _ (k .n .given .1)) .1)
+array-share-prefix-survey c = omega (arith, few-words _ _ (search needs) _ _ (c .before .before .before .before .read .ensures), c .before .before .words-in .ensures)
 
-slice-aggregate-open-survey : tie.Need-slice-aggregate-open-survey
-slice-aggregate-open-survey c = sym (length-take-le _ _ (omega (arith, (let k = c .before .before in text-words _ _ (search needs) _ _ (k .before .before .before .read .ensures) _ (k .n .given .1)) .1)))
+slice-aggregate-load-2 : tie.Need-slice-aggregate-load-2
+slice-aggregate-load-2 c = sym (length-take-le _ _ (let k = c .before in omega (arith, few-words _ _ (search needs) _ _ (k .before .before .before .before .read .ensures), k .before .before .words-in .ensures)))
 
-open-survey-requires : tie.Need-open-survey-requires
-open-survey-requires c κs = search needs
+load-requires : tie.Need-load-requires
+load-requires c κs = search needs
 
-enum-known-n-2 : tie.Need-enum-known-n-2
-enum-known-n-2 c = search needs
-
-refused-requires : tie.Need-refused-requires
-refused-requires c κs = search needs
-
-enum-known-place : tie.Need-enum-known-place
-enum-known-place c = search needs
-
-refused-requires-2 : tie.Need-refused-requires-2
-refused-requires-2 c κs = search needs
-
-enum-known-place-2 : tie.Need-enum-known-place-2
-enum-known-place-2 c = search needs
-
-refused-requires-3 : tie.Need-refused-requires-3
-refused-requires-3 c κs = search needs
+answer-of-requires : tie.Need-answer-of-requires
+answer-of-requires c κs = search needs
 
 returns : tie.Need-returns
-returns c = opens-words _ _ _ ((let k = c .before .before .before in text-words _ _ (search needs) _ _ (k .before .before .before .read .ensures) _ (k .n .given .1)) .0) (c .open-survey .ensures)
-
-returns-2 : tie.Need-returns-2
-unfolding textOutcome
-returns-2 c = opens-refused _ _ _ _ (text-refused _ _ (search needs) _ _ (c .before .before .before .before .before .read .ensures) _ _ (ap textOutcome (c .before .before .n2 .given .1))) (c .refused .ensures)
-
-returns-3 : tie.Need-returns-3
-unfolding textOutcome
-returns-3 c = opens-refused _ _ _ _ (text-refused _ _ (search needs) _ _ (c .before .before .before .before .before .read .ensures) _ _ (ap textOutcome (c .before .before .place .given .1))) (c .refused2 .ensures)
-
-returns-4 : tie.Need-returns-4
-unfolding textOutcome
-returns-4 c = opens-refused _ _ _ _ (text-refused _ _ (search needs) _ _ (c .before .before .before .before .before .read .ensures) _ _ (ap textOutcome (c .before .before .place2 .given .1))) (c .refused3 .ensures)
+returns c =
+    let a = c .before .before .before .before in
+    let l = a .before .before .before .before .before .before in
+    let o = l .before .before .before in
+    let w = o .before in
+    opens-read _ _ (search needs) _ _ (w .before .before .read .ensures) (l .load .result) _ _ _ (o .ours .ensures) (w .words-in .ensures) (l .load .ensures .0) (a .answer-of .ensures)
 
 pub open-spec : {M : Type 1} → statement M
 open-spec =
@@ -65,17 +47,11 @@ open-spec =
     (tie.spec
     slice-aggregate-read
     read-requires
-    enum-known-n
+    words-in-requires
+    ours-requires
+    slice-aggregate-load
     array-share-prefix-survey
-    slice-aggregate-open-survey
-    open-survey-requires
-    enum-known-n-2
-    refused-requires
-    enum-known-place
-    refused-requires-2
-    enum-known-place-2
-    refused-requires-3
-    returns
-    returns-2
-    returns-3
-    returns-4)
+    slice-aggregate-load-2
+    load-requires
+    answer-of-requires
+    returns)
