@@ -43,7 +43,7 @@ fn digit_bits(b: u8) -> u64
 }
 
 // The value of a digit, hexadecimal in either case; 16 for any other byte. No test tells the kinds of digits apart, since it would be mispredicted at every other one.
-fn digit(b: u8) -> u64
+pub fn digit(b: u8) -> u64
     ensures { λ r. ⌜ r ≡ digitOf b ⌝ }
 {
     let k = wide(b);
