@@ -87,7 +87,7 @@ TABLES = [
      [("ours, MB/s", speed("ours")), ("Rust, MB/s", speed("rust")), ("Rust from bytes, MB/s", speed("rust_bytes"))],
      [("ours/Rust", ALL), ("ours/Rust from bytes", FROM_BYTES)], "ours"),
     ("dumps", "Dumps",
-     "`dump::read` on bytes in memory, with room for any dump so long, a word a byte, or exactly as much as the records need, which are counted first then; and the Rust's `read` on a file with the same bytes, which is kept in memory ({shm}). "
+     "`dump::read` on bytes in memory, with room for any dump so long, a word a byte, or exactly as much as the records need; and the Rust's `read` on a file with the same bytes, which is kept in memory ({shm}). "
      "`file` is the opening and reading of that file alone. C is a plain loop that cuts the bytes into lines and tokens (bench/timing/cut.c, `cc -O2`).",
      "dump", "bytes",
      [("records", whole("records")), ("ours, MB/s", speed("ours")), ("Rust, MB/s", speed("rust")), ("C, MB/s", speed("c")), ("file, MB/s", speed("file"))],

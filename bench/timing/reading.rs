@@ -108,7 +108,7 @@ fn long(i: u32, length: usize) -> String {
 
 // ---- dumps --------------------------------------------------------------------------------
 
-/// A dump, and room for any dump so long, a word a byte; or exactly as much as its records need, which have to be counted then.
+/// A dump, and room for any dump so long, a word a byte; or exactly as much as its records need.
 pub struct Read<'a> {
     dump: &'a [u8],
     scratch: RefCell<Vec<u32>>,

@@ -1,3 +1,4 @@
+pub mod LineFeeds
 pub mod Groups
 pub mod Lines
 pub mod Reading
