@@ -1,4 +1,4 @@
-pub mod LineFeeds
+pub mod LineStarts
 pub mod Groups
 pub mod Lines
 pub mod Reading
