@@ -1,21 +1,19 @@
 -- Document 01, module 3: what a line of a dump is, as `Register::parse_debugfs` reads it. Assumes nothing.
-use Prim.Native.Nat.{ℕ, _-_}
-use mathlib.Core.Path.{_≡_}
+use Prim.Native.Nat.{ℕ}
 use mathlib.Core.Bool.{Bool, cond}
 use mathlib.Core.List.{List, [], _∷_}
 use mathlib.Core.Option.{Option, none, some}
 use lib.Dec.{eqb, ltb}
-use lib.ListN.{length, getD, take, drop}
+use lib.ListN.{length, getD}
 use Rattle.refusal.specs.Outcome.{Outcome, refused, value}
 use Rattle.util.specs.Number.{hexNumber, decimalNumber}
 use Rattle.util.specs.declared.Number.{Number}
 use Rattle.util.specs.declared.Number.the-variants as number
-use Rattle.scan.specs.Scan.{tokens, isLineFeed, isHigh, placeFrom}
+use Rattle.scan.specs.Scan.{tokens, isHigh, placeFrom}
 use Rattle.register.specs.declared.Register.{Register}
 use Rattle.register.specs.declared.Skip.the-variants.{Comment, Few, Bad}
 use Rattle.register.specs.declared.Met.{Met}
 use Rattle.register.specs.declared.Met.the-variants as met
-use Rattle.register.specs.declared.LineAt.{LineAt}
 use Rattle.register.specs.declared.Line.{Line}
 use Rattle.register.specs.declared.Line.the-variants as line
 
@@ -64,10 +62,6 @@ byTokens ts =
 
 unfoldable pub meaning : List ℕ → Met
 meaning s = cond (isComment s) (met.Skipped Comment) (byTokens (tokens s))
-
--- what the line from i on is, and where it ends: at LF or the end; i itself where i is past the end
-abbrev pub MetAt : List ℕ → ℕ → LineAt → Type 0
-MetAt s i r = (r .end ≡ placeFrom isLineFeed s i) × (r .met ≡ meaning (take (r .end - i) (drop i s)))
 
 unfoldable pub recordOf : Met → Option Register
 recordOf (met.Record r) = some r

@@ -1,0 +1,276 @@
+// The lines of a text, read by their columns where they have those that the kernel prints, else by their tokens.
+ghost use mathlib.Core.Path.{_≡_};
+ghost use mathlib.Core.Bool.{true};
+ghost use mathlib.Core.List.{[]};
+ghost use Prim.Native.Nat.{_+_, _<_, _≤_};
+ghost use lib.ListN.{length, getD, take, drop};
+ghost use Rattle.util.specs.Number.{digitOf};
+ghost use Rattle.scan.specs.Scan.{isLineFeed, placeFrom};
+ghost use Rattle.columns.specs.Lines.{MetAt};
+ghost use Rattle.columns.specs.Work.{noDigit, Digits, Prefix, Run, Ends, FrontsAt, ColumnsAt, QuickAt};
+use register::Met;
+use register::Register;
+use register::Skip;
+use util::MAX_16;
+use util::MAX_32;
+use util::Number;
+
+// What a line of a text is, and where it ends: at LF, or at the end of the text.
+pub struct LineAt {
+    pub met: Met,
+    pub end: usize,
+}
+
+// The first three numbers of a line in the columns that the kernel prints.
+struct Front {
+    offset: u16,
+    relative_offset: u16,
+    cap_id: u16,
+}
+
+enum Fronts {
+    Read(Front),
+    Other,
+}
+
+// What a line in those columns gives; any other line is left to its tokens.
+enum Columns {
+    Record(Register),
+    Other,
+}
+
+enum Quick {
+    Found(LineAt),
+    Other,
+}
+
+// What stands for a byte that is no digit: with it no sum of digits looks like a good one, so that one test does for a whole number.
+const NO_DIGIT: u64 = 0x1_0000_0000;
+
+// A digit of a number in columns.
+fn column(b: u8) -> u64
+    ensures { λ r. ⌜ (r ≤ noDigit) × (r < noDigit → (r < 16) × (r ≡ digitOf b)) ⌝ }
+{
+    let d = util::digit(b);
+    if d < 16 { d } else { NO_DIGIT }
+}
+
+// The number that two digits write.
+fn two_digits(s: &[u8], i: usize) -> u64
+    requires { ⌜ i + 2 ≤ length (now s) ⌝ }
+    ensures { λ r. ⌜ (r < noDigit → (r < 256) × Digits (take 2 (drop i (now (s .entry)))) r) ⌝ }
+{
+    column(s[i]) * 16 + column(s[i + 1])
+}
+
+// The number that four digits write.
+fn four_digits(s: &[u8], i: usize) -> u64
+    requires { ⌜ i + 4 ≤ length (now s) ⌝ }
+    ensures { λ r. ⌜ (r ≤ 0x111100000000) × (r < noDigit → (r < 65536) × Digits (take 4 (drop i (now (s .entry)))) r) ⌝ }
+{
+    column(s[i]) * 4096 + column(s[i + 1]) * 256 + column(s[i + 2]) * 16 + column(s[i + 3])
+}
+
+// The number that eight digits write.
+fn eight_digits(s: &[u8], i: usize) -> u64
+    requires { ⌜ i + 8 ≤ length (now s) ⌝ }
+    ensures { λ r. ⌜ (r < noDigit → Digits (take 8 (drop i (now (s .entry)))) r) ⌝ }
+{
+    let high = four_digits(s, i);
+    let low = four_digits(s, i + 4);
+    high * 65536 + low
+}
+
+// Whether `0x` stands there.
+fn prefixed(s: &[u8], i: usize) -> bool
+    requires { ⌜ i + 2 ≤ length (now s) ⌝ }
+    ensures { λ r. ⌜ (r ≡ true → Prefix (now (s .entry)) i) ⌝ }
+{
+    if s[i] != b'0' {
+        return false;
+    }
+    s[i + 1] == b'x'
+}
+
+// Whether a space and `0x` stand there.
+fn next_prefixed(s: &[u8], i: usize) -> bool
+    requires { ⌜ i + 3 ≤ length (now s) ⌝ }
+    ensures { λ r. ⌜ (r ≡ true → (getD (now (s .entry)) i 0 ≡ 32) × Prefix (now (s .entry)) (i + 1)) ⌝ }
+{
+    if s[i] != b' ' {
+        return false;
+    }
+    prefixed(s, i + 1)
+}
+
+// Where a number stands that at most three spaces pad.
+fn padded(s: &[u8], i: usize) -> usize
+    requires { ⌜ i + 4 ≤ length (now s) ⌝ }
+    ensures { λ r. ⌜ (r ≤ i + 3) × Run (now (s .entry)) i r [] ⌝ }
+{
+    if s[i] != b' ' {
+        return i;
+    }
+    if s[i + 1] != b' ' {
+        return i + 1;
+    }
+    if s[i + 2] != b' ' {
+        return i + 2;
+    }
+    i + 3
+}
+
+// `0xhhhh dddd 0xhh`, which a space follows.
+fn read_front(s: &[u8], i: usize) -> Fronts
+    requires { ⌜ (i + 17 ≤ length (now s)) × (getD (now s) (i + 16) 0 ≡ 32) ⌝ }
+    ensures { λ r. ⌜ FrontsAt (now (s .entry)) i r ⌝ }
+{
+    if !prefixed(s, i) {
+        return Fronts::Other;
+    }
+    if s[i + 6] != b' ' {
+        return Fronts::Other;
+    }
+    if !next_prefixed(s, i + 11) {
+        return Fronts::Other;
+    }
+    let offset = four_digits(s, i + 2);
+    if 65535 < offset {
+        return Fronts::Other;
+    }
+    let cap = two_digits(s, i + 14);
+    if 255 < cap {
+        return Fronts::Other;
+    }
+    let start = padded(s, i + 7);
+    let Number::Value(relative) = util::parse_decimal(&s[start..i + 11], MAX_16) else {
+        return Fronts::Other;
+    };
+    Fronts::Read(Front {
+        offset: offset as u16,
+        relative_offset: relative as u16,
+        cap_id: cap as u16,
+    })
+}
+
+// `0xhhhh dddd 0xhh 0xhh 0xhhhhhhhh`, a line of 32 bytes: offset, relative offset, cap id, vs id, value.
+fn five_columns(s: &[u8], i: usize) -> Columns
+    requires { ⌜ Ends (now s) i 32 ⌝ }
+    ensures { λ r. ⌜ ColumnsAt (now (s .entry)) i 32 r ⌝ }
+{
+    if !next_prefixed(s, i + 16) {
+        return Columns::Other;
+    }
+    if !next_prefixed(s, i + 21) {
+        return Columns::Other;
+    }
+    let Fronts::Read(f) = read_front(s, i) else {
+        return Columns::Other;
+    };
+    let vs = two_digits(s, i + 19);
+    if 255 < vs {
+        return Columns::Other;
+    }
+    let value = eight_digits(s, i + 24);
+    if MAX_32 < value {
+        return Columns::Other;
+    }
+    Columns::Record(Register {
+        offset: f.offset,
+        relative_offset: f.relative_offset,
+        cap_id: f.cap_id,
+        vs_cap_id: vs as u16,
+        value: value as u32,
+    })
+}
+
+// `0xhhhh dddd 0xhh 0xhhhhhhhh`, a line of 27 bytes: offset, relative offset, one that is ignored, value.
+fn four_columns(s: &[u8], i: usize) -> Columns
+    requires { ⌜ Ends (now s) i 27 ⌝ }
+    ensures { λ r. ⌜ ColumnsAt (now (s .entry)) i 27 r ⌝ }
+{
+    if !next_prefixed(s, i + 16) {
+        return Columns::Other;
+    }
+    let Fronts::Read(f) = read_front(s, i) else {
+        return Columns::Other;
+    };
+    let value = eight_digits(s, i + 19);
+    if MAX_32 < value {
+        return Columns::Other;
+    }
+    Columns::Record(Register {
+        offset: f.offset,
+        relative_offset: f.relative_offset,
+        cap_id: 0,
+        vs_cap_id: 0,
+        value: value as u32,
+    })
+}
+
+// Whether LF or the end of the text stands `n` bytes after place `i`.
+fn ends(s: &[u8], i: usize, n: usize) -> bool
+    ensures { λ r. ⌜ (r ≡ true → Ends (now (s .entry)) i n) ⌝ }
+{
+    if s.len() < n {
+        return false;
+    }
+    let last = s.len() - n;
+    if last < i {
+        return false;
+    }
+    if last == i {
+        return true;
+    }
+    s[i + n] == 10
+}
+
+// A line in the columns that the kernel prints.
+fn by_columns(s: &[u8], at: usize) -> Quick
+    ensures { λ r. ⌜ QuickAt (now (s .entry)) at r ⌝ }
+{
+    if ends(s, at, 32) {
+        let Columns::Record(r) = five_columns(s, at) else {
+            return Quick::Other;
+        };
+        return Quick::Found(LineAt {
+            met: Met::Record(r),
+            end: at + 32,
+        });
+    }
+    if ends(s, at, 27) {
+        let Columns::Record(r) = four_columns(s, at) else {
+            return Quick::Other;
+        };
+        return Quick::Found(LineAt {
+            met: Met::Record(r),
+            end: at + 27,
+        });
+    }
+    Quick::Other
+}
+
+// Any line.
+fn by_tokens(s: &[u8], at: usize) -> LineAt
+    ensures { λ r. ⌜ MetAt (now (s .entry)) at r ⌝ }
+{
+    let end = scan::line_end(s, at);
+    if s.len() < end {
+        return LineAt {
+            met: Met::Skipped(Skip::Few),
+            end,
+        };
+    }
+    let met = register::read_line(&s[at..end]);
+    LineAt { met, end }
+}
+
+// The line that begins at a place of a text, for callers that have looked for bytes above 127 themselves.
+pub fn read_at(s: &[u8], at: usize) -> LineAt
+    ensures { λ r. ⌜ MetAt (now (s .entry)) at r ⌝ }
+{
+    let Quick::Found(l) = by_columns(s, at) else {
+        return by_tokens(s, at);
+    };
+    l
+}
