@@ -108,7 +108,7 @@ pub fn adapter(descriptions: &[u32], survey: &[u32], place: usize, number: u8) -
                 state,
                 lane0: facts.lane0,
                 lane1: facts.lane1,
-                min_hop: paths::min_hop(kind),
+                min_hop: hopids::min_hop(kind),
                 enabled: is_enabled(kind, state),
             })
         }

@@ -208,7 +208,7 @@ fn keep(descriptions: &[u32], survey: &[u32], i: usize, kind: u32, least: u32, k
     requires { ⌜ (i + 4 ≤ length (now survey)) × KeptFor (descriptionsOf (now descriptions)) kind kept ⌝ }
     ensures { λ r. ⌜ KeptFor (descriptionsOf (now (descriptions .entry))) kind r × FieldsAt (descriptionsOf (now (descriptions .entry))) kind least (registerAt (now (survey .entry)) i) (r .fields) ⌝ }
 {
-    if !paths::looked_at(layout::word_at(survey, i) % 65536, least) {
+    if !hopids::looked_at(layout::word_at(survey, i) % 65536, least) {
         return kept;
     }
     let ids = layout::word_at(survey, i + 1);
@@ -240,7 +240,7 @@ fn push_entry(
     ensures { λ r. ⌜ OneMore n (i + 4) r ⌝ }
 {
     let offset = layout::word_at(survey, i) % 65536;
-    if !paths::looked_at(offset, least) {
+    if !hopids::looked_at(offset, least) {
         return Pushed::Entries {
             count: n,
             next: i + 4,
@@ -326,7 +326,7 @@ fn push_entries(
     ensures { λ r. ⌜ pushedRows site (now (entries .exit)) r ≡ bind (entriesBy (descriptionsOf (now (descriptions .entry))) site (typeNumber kind) (after (now (survey .entry)) (at + 1) .entries) (minHop kind)) (λ es. value (entriesIn (take n (now (entries .entry))) ++ map (owned (site .place) (site .adapter)) es)) ⌝ }
     ensures { λ r. ⌜ PushedWithin (now (survey .entry)) (at + 1) r ⌝ }
 {
-    let HopFound::Hop(least) = paths::min_hop(kind) else {
+    let HopFound::Hop(least) = hopids::min_hop(kind) else {
         return Pushed::Entries {
             count: n,
             next: at + 1,

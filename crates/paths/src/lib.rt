@@ -1,59 +1,23 @@
-// Path entries (module 5): the least HopID of a kind, and what a path register says. Any words will do.
-ghost use Prim.Native.Nat.{_*_, _%_};
+// Path entries (module 5): what a path register says. Any words will do.
 ghost use mathlib.Core.Path.{_≡_};
-ghost use mathlib.Core.Bool.{_&&_};
-ghost use lib.Dec.{leb, eqb};
 ghost use Rattle.refusal.specs.declared.Site.{Site};
 ghost use Rattle.layout.specs.Layout.{low};
 ghost use Rattle.layout.specs.Description.{descriptionsOf};
 ghost use Rattle.metadata.specs.Calls.{valueIn};
 ghost use Rattle.survey.specs.Devices.{registerIn};
 ghost use Rattle.named.specs.Named.{pathSpace, named};
-ghost use Rattle.adapter.specs.Adapter.{minHop, hopOutcome};
 ghost use Rattle.adapter.specs.Paths.{entryOf, entryOutcome};
 ghost use Rattle.paths.specs.Reading.{fieldsFor, leads, readBy};
 use adapter::EntryFound;
-use adapter::HopFound;
 use fields::FieldFound;
 use naming::Found;
 use naming::Sought;
-use usb4::AdapterType;
 
 // Where the fields of a path entry stand.
 pub struct EntryFields {
     pub valid: FieldFound,
     pub hop: FieldFound,
     pub out: FieldFound,
-}
-
-// The least HopID of an adapter of a kind.
-pub fn min_hop(kind: AdapterType) -> HopFound
-    ensures { λ r. ⌜ hopOutcome r ≡ minHop kind ⌝ }
-{
-    match kind {
-        AdapterType::Unknown => HopFound::None,
-        AdapterType::Inactive => HopFound::None,
-        AdapterType::Lane => HopFound::Hop(8),
-        AdapterType::HostInterface => HopFound::Hop(1),
-        AdapterType::DisplayPortIn => HopFound::Hop(8),
-        AdapterType::DisplayPortOut => HopFound::Hop(8),
-        AdapterType::PcieDown => HopFound::Hop(8),
-        AdapterType::PcieUp => HopFound::Hop(8),
-        AdapterType::Usb3Down => HopFound::Hop(8),
-        AdapterType::Usb3Up => HopFound::Hop(8),
-        AdapterType::Usb3GenTDown => HopFound::Hop(8),
-        AdapterType::Usb3GenTUp => HopFound::Hop(8),
-    }
-}
-
-// Whether a path register at an offset is looked at: even offsets from 2 × the least HopID on.
-pub fn looked_at(offset: u32, least: u32) -> bool
-    ensures { λ r. ⌜ r ≡ leb (2 * least) offset && eqb (offset % 2) 0 ⌝ }
-{
-    if (offset as u64) < 2 * (least as u64) {
-        return false;
-    }
-    offset % 2 == 0
 }
 
 // Where a valid entry leads: Output HopID, then Output Adapter.

@@ -61,7 +61,7 @@ fn hops_of(place: usize, f: Facts) -> LaneFound
     ensures { λ r. ⌜ laneOutcome r ≡ hopsOf place (factsRow place f) ⌝ }
 {
     let kind = f.kind;
-    let HopFound::Hop(least) = paths::min_hop(kind) else {
+    let HopFound::Hop(least) = hopids::min_hop(kind) else {
         return LaneFound::Dropped;
     };
     let max_hop = f.max_hop;

@@ -1,11 +1,12 @@
+-- `hopids::looked_at` meets its contract.
 use Prim.Native.Nat.{_%_}
 use mathlib.Core.Path.{sym, ap}
 use mathlib.Core.Bool.{Bool, _&&_}
 use lib.Dec.{eqb}
 use borrow.Author.Tests.{lt-leb, le-leb}
 use borrow.Author.Needs.{needs}
-use Rattle.paths.proofs.looked_at.Statement.{statement}
-use Rattle.paths.proofs.looked_at.Tie as tie
+use Rattle.hopids.proofs.looked_at.Statement.{statement}
+use Rattle.hopids.proofs.looked_at.Tie as tie
 
 mul-if1 : tie.Need-mul-if1
 mul-if1 c = search needs

@@ -1,8 +1,9 @@
+-- `hopids::min_hop` meets its contract.
 use mathlib.Core.Path.{sym, ap}
 use Rattle.adapter.specs.Adapter.{hopOutcome, minHop}
 use borrow.Author.Needs.{needs}
-use Rattle.paths.proofs.min_hop.Statement.{statement}
-use Rattle.paths.proofs.min_hop.Tie as tie
+use Rattle.hopids.proofs.min_hop.Statement.{statement}
+use Rattle.hopids.proofs.min_hop.Tie as tie
 
 enum-told : tie.Need-enum-told
 enum-told c = search needs
