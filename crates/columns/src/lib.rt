@@ -51,8 +51,7 @@ const NO_DIGIT: u64 = 0x1_0000_0000;
 fn column(b: u8) -> u64
     ensures { λ r. ⌜ (r ≤ noDigit) × (r < noDigit → (r < 16) × (r ≡ digitOf b)) ⌝ }
 {
-    let d = util::digit(b);
-    if d < 16 { d } else { NO_DIGIT }
+    util::digit_or(b, NO_DIGIT)
 }
 
 // The number that two digits write.
