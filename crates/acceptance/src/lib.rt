@@ -14,9 +14,7 @@ pub enum Acceptance {
 pub fn accepted(descriptions: &[u32], survey: &[u32]) -> Acceptance
     ensures { λ r. ⌜ acceptedOutcome r ≡ acceptedAnswer (now (descriptions .entry)) (now (survey .entry)) ⌝ }
 {
-    let loaded = load::load(descriptions, survey);
-    let answer = loaded.answer;
-    match answer {
+    match load::accept(descriptions, survey) {
         LoadAnswer::Refused(refusal) => Acceptance::Refused(refusal),
         LoadAnswer::Tables {
             entries,

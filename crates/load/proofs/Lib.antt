@@ -1,4 +1,5 @@
 pub mod Append
+pub mod Counting
 pub mod Entries
 pub mod Example
 pub mod Fitting

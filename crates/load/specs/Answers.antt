@@ -2,7 +2,7 @@
 use Prim.Native.Nat.{ℕ, _≤_}
 use mathlib.Core.List.{List, [], _∷_}
 use mathlib.Core.Option.{Option, none, some}
-use lib.ListN.{take}
+use lib.ListN.{length, take}
 use Rattle.refusal.specs.Outcome.{Outcome, refused, value, bind}
 use Rattle.refusal.specs.Refusal.{refusalOf}
 use Rattle.adapter.specs.Adapter.{AdapterRow}
@@ -41,6 +41,19 @@ pub record Usable (l : Loaded) (e a d : ℕ) : Type 0 where
 unfoldable pub UsableBy : Loaded → LoadAnswer → Type 0
 UsableBy l (answer.Tables e a d) = Usable l e a d
 UsableBy l (answer.Refused r) = 0 ≤ 0
+
+-- how many rows there are of each kind
+pub record Counts : Type 0 where
+  pub entries : ℕ
+  pub adapters : ℕ
+  pub devices : ℕ
+
+unfoldable pub countsOf : Rows → Counts
+countsOf x = record { entries = length (x .entries); adapters = length (x .adapters); devices = length (x .devices) }
+
+unfoldable pub countedBy : LoadAnswer → Outcome Counts
+countedBy (answer.Tables e a d) = value (record { entries = e; adapters = a; devices = d })
+countedBy (answer.Refused r) = refusedBy r
 
 -- 14: the device or adapter asked for isn't there
 unfoldable pub present : {A : Type 0} → Option A → Outcome A

@@ -18,7 +18,7 @@ ghost use Rattle.adapter.specs.Paths.{entriesFrom, entriesBy};
 ghost use Rattle.tables.specs.Found.{upstreamOutcome};
 ghost use Rattle.tables.specs.Packed.{speedBy, numberBy, upstreamBy, entryWord, adapterWord, deviceWord, entriesIn};
 ghost use Rattle.load.specs.Loading.{andThen, owned, loadAdapter, loadAdapters, routerCs1, upstreamIn, fitting, loadDevice, loadFrom, loaded};
-ghost use Rattle.load.specs.Answers.{loadedRows, UsableBy};
+ghost use Rattle.load.specs.Answers.{loadedRows, UsableBy, countsOf, countedBy};
 ghost use Rattle.load.specs.Work.{HopFits, rowsSoFar, pushedRows, FieldsAt, KeptFor, OneMore, PushedWithin, adapterRows, AdapterWithin, adaptersRows, AdaptersWithin, fitOutcome, fitsBy, deviceLoadRows, DeviceWithin, filledRows, FilledWithin, intoRows, IntoWithin};
 use adapter::Decoded;
 use adapter::EntryFound;
@@ -691,4 +691,22 @@ pub fn load(descriptions: &[u32], survey: &[u32]) -> Loaded
         routes,
         marks,
     }
+}
+
+// How many rows of each kind a survey loads to, or why it is refused: as `load`, with no tables to hand out.
+pub fn accept(descriptions: &[u32], survey: &[u32]) -> LoadAnswer
+    ensures { λ r. ⌜ countedBy r ≡ bind (loaded (now (descriptions .entry)) (now (survey .entry))) (λ x. value (countsOf x)) ⌝ }
+{
+    let mut entries = [0u64; 4096];
+    let mut adapters = [0u64; 16384];
+    let mut routes = [0u64; 4096];
+    let mut marks = [0u64; 4096];
+    load_into(
+        descriptions,
+        survey,
+        &mut entries,
+        &mut adapters,
+        &mut routes,
+        &mut marks,
+    )
 }
