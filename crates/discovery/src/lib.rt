@@ -479,7 +479,7 @@ fn put_dma(
             let end = rings_end(largest);
             let quiet = is_quiet(entries, adapters, routes, marks);
             let mut idle = [0u8; 64];
-            let mut draft = [0u32; 512]; // of some 70 rings
+            let mut draft = [0u32; 1024]; // of some 140 rings
             match tally_rings(
                 entries,
                 adapters,
