@@ -41,6 +41,9 @@ const MOST_ENTRIES: usize = 4096;
 
 const MOST_DEVICES: usize = 4096;
 
+// With more entries, looking through them for each ring can take longer than the search that it is to save.
+const FEW_ENTRIES: usize = 256;
+
 // The head word of a tunnel.
 fn tunnel_word(kind: TunnelType, closed: bool, paths: u8) -> u32
     ensures { λ r. ⌜ r ≡ 8 * 268435456 + cond closed 65536 0 + paths * 256 + tunnelNumber kind ⌝ }
@@ -170,6 +173,9 @@ fn leaves_by(entries: &[u64], hop: u16) -> bool
 fn is_quiet(entries: &[u64], adapters: &[u64], routes: &[u64], marks: &[u64]) -> bool
     ensures { λ r. ⌜ (r ≡ true → Quiet (now (entries .entry)) (now (adapters .entry)) (now (routes .entry)) (now (marks .entry))) ⌝ }
 {
+    if FEW_ENTRIES < entries.len() {
+        return false;
+    }
     if leaves_by(entries, 65535) {
         return false;
     }
@@ -479,7 +485,7 @@ fn put_dma(
             let end = rings_end(largest);
             let quiet = is_quiet(entries, adapters, routes, marks);
             let mut idle = [0u8; 64];
-            let mut draft = [0u32; 1024]; // of some 140 rings
+            let mut draft = [0u32; 1024]; // room for the words of some 140 rings
             match tally_rings(
                 entries,
                 adapters,
