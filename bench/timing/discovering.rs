@@ -56,6 +56,11 @@ fn crowded(entries: u32) -> Vec<Router> {
     host(lane(7 + entries, dump), 40, used.map(|r| leads(r, 1, 8 + r)).to_vec(), 1)
 }
 
+/// A thousand rings, none in use, a lane with so many entries that lead nowhere near them, and no xdomain: nothing is to be searched.
+fn unsearched(entries: u32) -> Vec<Router> {
+    host(lane(7 + entries, (0..entries).map(|i| leads(8 + i, 2, 2000)).collect()), 1000, Vec::new(), 0)
+}
+
 /// A tunnel from adapter 2 of a host to adapter 2 of a router so deep, through lanes 1 and 2 of those between.
 /// Each pair is a path's HopID at its adapters and between them: those down first, then those up.
 fn deep(depth: u32, kinds: [u32; 2], down: &[(u32, u32)], up: &[(u32, u32)]) -> Vec<Router> {
@@ -168,6 +173,9 @@ pub fn run(rounds: usize) {
     }
     for n in (4..=10).map(|n| 1 << n) {
         time("dense", "40 rings, four in use, entries at all HopIDs", n, &crowded(n));
+    }
+    for n in (4..=10).map(|n| 1 << n) {
+        time("dense", "1,000 rings, none in use, no xdomain, entries at all HopIDs", n, &unsearched(n));
     }
     for depth in 1..=7 {
         time("deep", "PCIe", depth, &deep(depth, [PCIE_DOWN, PCIE_UP], &[(8, 9)], &[(8, 10)]));
