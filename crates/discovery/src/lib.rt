@@ -41,8 +41,8 @@ const MOST_ENTRIES: usize = 4096;
 
 const MOST_DEVICES: usize = 4096;
 
-// With more entries, looking through them for each ring can take longer than the search that it is to save.
-const FEW_ENTRIES: usize = 256;
+// With more entries, looking through them for each ring takes longer than a search that finds no xdomain.
+const FEW_ENTRIES: usize = 64;
 
 // The head word of a tunnel.
 fn tunnel_word(kind: TunnelType, closed: bool, paths: u8) -> u32
@@ -169,11 +169,31 @@ fn leaves_by(entries: &[u64], hop: u16) -> bool
     false
 }
 
+// Whether a device is an xdomain, by its mark. Only time hangs on it.
+fn has_xdomain(marks: &[u64]) -> bool {
+    let mut i: usize = 0;
+    while i < marks.len() {
+        if marks[i] / 281474976710656 % 16 == 2 {
+            return true;
+        }
+        i += 1;
+    }
+    false
+}
+
+// Whether to look through the entries for each ring takes longer than the search that it is to save.
+fn is_dear(entries: &[u64], marks: &[u64]) -> bool {
+    if entries.len() <= FEW_ENTRIES {
+        return false;
+    }
+    !has_xdomain(marks)
+}
+
 // Whether the search for a receive path is not refused for a ring that no entry leaves by. It goes alike for all of these, so one is asked: 65,535, which no ring of a survey by our descriptions is.
 fn is_quiet(entries: &[u64], adapters: &[u64], routes: &[u64], marks: &[u64]) -> bool
     ensures { λ r. ⌜ (r ≡ true → Quiet (now (entries .entry)) (now (adapters .entry)) (now (routes .entry)) (now (marks .entry))) ⌝ }
 {
-    if FEW_ENTRIES < entries.len() {
+    if is_dear(entries, marks) {
         return false;
     }
     if leaves_by(entries, 65535) {

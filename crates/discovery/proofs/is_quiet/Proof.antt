@@ -7,6 +7,9 @@ use Rattle.discovery.proofs.Quiet.{quiet}
 use Rattle.discovery.proofs.is_quiet.Statement.{statement}
 use Rattle.discovery.proofs.is_quiet.Tie as tie
 
+is-dear-requires : tie.Need-is-dear-requires
+is-dear-requires c κs = search needs
+
 returns : tie.Need-returns
 returns c = λ e. absurd (false≢true e)
 
@@ -49,6 +52,7 @@ pub is-quiet-spec : {M : Type 1} → statement M
 is-quiet-spec =
     tie.close
     (tie.spec
+    is-dear-requires
     returns
     leaves-by-requires
     returns-2
