@@ -42,7 +42,7 @@ const MOST_ENTRIES: usize = 4096;
 const MOST_DEVICES: usize = 4096;
 
 // With more entries, looking through them for each ring takes longer than a search that finds no xdomain.
-const FEW_ENTRIES: usize = 64;
+const FEW_ENTRIES: usize = 16;
 
 // The head word of a tunnel.
 fn tunnel_word(kind: TunnelType, closed: bool, paths: u8) -> u32
