@@ -1,20 +1,19 @@
 -- Laws of rings that no entry leaves by: how they are told, and that they have no tunnel. Assumes nothing.
-use Prim.Native.Nat.{ℕ, suc, _+_, _%_, _≤_, _<_}
+use Prim.Native.Nat.{ℕ, suc, _+_, _*_, _/_, _%_, _^_, _≤_, _<_}
 use mathlib.Core.Path.{_≡_, refl, sym, ap, _∙_}
-use mathlib.Core.Bool.{Bool, true, false, _||_}
+use mathlib.Core.Bool.{Bool, true, false, cond, _&&_, _||_}
 use mathlib.Core.List.{List}
-use mathlib.Core.Option.{none}
+use mathlib.Core.Option.{none, some}
 use native.Mathlib.Omega.{arith}
+use native.Mathlib.Decide.{decLt}
 use native.Mathlib.Numerals.{add-one}
 use lib.Dec.{eqb}
-use lib.ListN.{length, getD, drop, drop-of-length-le}
-use lib.Seq.{drop-cons}
-use borrow.Author.Tests.{eq-eqb, ne-eqb}
+use lib.ListN.{length, getD, set, drop, drop-of-length-le, List·getD-eq-default}
+use lib.Seq.{drop-cons, getD-set-same, getD-set-other}
+use borrow.Author.Tests.{eq-eqb, ne-eqb, eqb-true}
 use Rattle.refusal.specs.Outcome.{Outcome, refused, value, bind}
-use Rattle.tables.specs.Packed.{entryWord}
-use Rattle.tables.specs.Found.{entryFound, EntrySought}
-use Rattle.tables.specs.declared.EntryAt.{EntryAt}
-use Rattle.tables.specs.declared.EntryAt.the-variants as entry
+use Rattle.tables.specs.Rows.{entryIn}
+use Rattle.tables.specs.Packed.{entryWord, entriesIn}
 use Rattle.fabric.specs.Tables.{rowsWith}
 use Rattle.walk.specs.Tables.{rowsOf, Tabled}
 use Rattle.receive.specs.Receive.{at, Receive, receive}
@@ -23,9 +22,7 @@ use Rattle.receive.specs.declared.Received.{Received}
 use Rattle.receive.specs.declared.Received.the-variants as answer
 use Rattle.receive.proofs.Hops.{walk-none}
 use Rattle.tunnel.specs.Tunnels.{Tunnel, ringTunnel, oneDma}
-use Rattle.tunnel.specs.Plans.{planIf, plannedOutcome, wordsBy, pathsBy, Plans}
-use Rattle.tunnel.specs.declared.Planned.the-variants as planned
-use Rattle.discovery.specs.Work.{among, outHops, Quiet, Unasked}
+use Rattle.discovery.specs.Work.{among, outHops, Quiet, Unasked, Unmarked, Spared, Resting, Idle}
 use Rattle.discovery.proofs.Past.{unused, receive-alike, bare-tunnel}
 
 -- ---- the HopIDs by which entries leave, one by one
@@ -47,16 +44,71 @@ module _ (en : List ℕ) (i v : ℕ) where
   unfolding among outHops
   out-end l = ap (λ (z : List ℕ). among v (outHops z)) (drop-of-length-le en {i = i} l)
 
+-- ---- rings that are not marked
+
+pub unmarked : (ring : ℕ) (idle : List ℕ) → ring < length idle → Unmarked ring idle (set idle ring 0)
+unmarked ring idle l = record { keeps = λ j e. go j e (decLt j ring) (decLt ring j) }
+  where
+    go : (j : ℕ) → getD (set idle ring 0) j 0 ≡ 1 → Dec (j < ring) → Dec (ring < j) → (getD idle j 0 ≡ 1) × (ring ≡ j → ⊥)
+    go j e (yes k) n = (sym (getD-set-other idle ring j 0 0 (λ q. omega arith)) ∙ e, λ q. omega arith)
+    go j e (no k) (yes n) = (sym (getD-set-other idle ring j 0 0 (λ q. omega arith)) ∙ e, λ q. omega arith)
+    go j e (no k) (no n) = absurd (let q : j ≡ ring = omega arith in omega (arith, sym e ∙ ap (λ i. getD (set idle ring 0) i 0) q ∙ getD-set-same idle ring 0 0 l))
+
+-- there is none so large
+pub not-there : (ring : ℕ) (idle : List ℕ) → length idle ≤ ring → Unmarked ring idle idle
+not-there ring idle l = record { keeps = λ j e. (e, λ q. omega (arith, e, List·getD-eq-default {A = ℕ} idle 0 {n = j} (omega (arith, q, l)))) }
+
+pub spared-other : (w owner : ℕ) (old new : List ℕ) → Unmarked (w % 65536) old new → (w / 1099511627776 ≡ owner → ⊥) → Spared w owner old new
+spared-other w owner old new u n = record { keeps = λ j e. let k = u .keeps j e in (k .0, k .1, λ q z. n q) }
+
+pub spared-both : (w owner : ℕ) (old mid new : List ℕ) → Unmarked (w % 65536) old mid → Unmarked (w / 16777216 % 65536) mid new → Spared w owner old new
+spared-both w owner old mid new u v = record { keeps = λ j e. let k = v .keeps j e in let l = u .keeps j (k .0) in (l .0, l .1, λ q z. k .1 z) }
+
+-- an entry that doesn't stand at an adapter's HopID
+not-here : (w p a j : ℕ) → ((w / 2 ^ 48 ≡ p) → (w / 2 ^ 40 % 256 ≡ a) → (w / 2 ^ 24 % 65536 ≡ j) → ⊥) → (eqb (w / 2 ^ 48) p && eqb (w / 2 ^ 40 % 256) a && eqb (w / 2 ^ 24 % 65536) j) ≡ false
+not-here w p a j n = go (eqb (w / 2 ^ 48) p) (eqb (w / 2 ^ 40 % 256) a) (eqb (w / 2 ^ 24 % 65536) j) refl refl refl
+  where
+    go : (x y z : Bool) → eqb (w / 2 ^ 48) p ≡ x → eqb (w / 2 ^ 40 % 256) a ≡ y → eqb (w / 2 ^ 24 % 65536) j ≡ z → (x && y && z) ≡ false
+    go false y z e f g = refl
+    go true false z e f g = refl
+    go true true false e f g = refl
+    go true true true e f g = absurd (n (eqb-true _ _ e) (eqb-true _ _ f) (eqb-true _ _ g))
+
+-- what rings are unmarked for the entries from a place on, for all
+pub record Sparing (en : List ℕ) (p a i : ℕ) (idle : List ℕ) : Type 0 where
+  pub left : (j : ℕ) → getD idle j 0 ≡ 1 → Unasked (drop i en) p a j → Unasked en p a j
+
+module _ (en : List ℕ) (p a i : ℕ) where
+  entry-on : i < length en → (j : ℕ) → ((getD en i 0 / 2 ^ 48 ≡ p) → (getD en i 0 / 2 ^ 40 % 256 ≡ a) → (getD en i 0 / 2 ^ 24 % 65536 ≡ j) → ⊥) → entryIn (entriesIn (drop i en)) p a j ≡ entryIn (entriesIn (drop (i + 1) en)) p a j
+  unfolding entryIn entryWord
+  entry-on l j n =
+      ap (λ (z : List ℕ). entryIn (entriesIn z) p a j) (drop-cons en i 0 l)
+      ∙ ap (λ b. cond b (some (entryWord (getD en i 0))) (entryIn (entriesIn (drop (suc i) en)) p a j)) (not-here (getD en i 0) p a j n)
+      ∙ ap (λ (k : ℕ). entryIn (entriesIn (drop k en)) p a j) (sym (add-one i))
+
+  pub sparing-on : (idle idle′ : List ℕ) → Sparing en p a i idle → i < length en → (owner : ℕ) → owner ≡ p % 65536 * 256 + a → a < 256 → Spared (getD en i 0) owner idle idle′ → Sparing en p a (i + 1) idle′
+  sparing-on idle idle′ s l owner o b w = record {
+    left = λ j e u.
+        let k = w .keeps j e in
+        s .left j (k .0) (record {
+          unused = out-on en i j l (k .1) ∙ u .unused;
+          missing = λ q. entry-on l j (λ x y z. k .2 (omega (arith, o, q, x, y)) z) ∙ u .missing q;
+        });
+  }
+
+  pub sparing-end : (idle : List ℕ) → Sparing en p a i idle → length en ≤ i → Resting en p a idle
+  unfolding entryIn
+  sparing-end idle s l = record { rests = λ j e. s .left j e (record { unused = out-end en i j l; missing = λ q. ap (λ (z : List ℕ). entryIn (entriesIn z) p a j) (drop-of-length-le en {i = i} l) }) }
+
+pub sparing-start : (en : List ℕ) (p a : ℕ) (idle : List ℕ) → Sparing en p a 0 idle
+sparing-start en p a idle = record { left = λ j e u. u }
+
 -- ---- a search that isn't refused
 
 said-value : (o : Outcome Receive) (s : Said) → value s ≡ bind o (λ r. value (saidOf r)) → (r : Receive) × (o ≡ value r)
 unfolding bind
 said-value (refused k vs) s e = absurd (let z : _≡_ {A = ℕ} 0 1 = cc in omega arith)
 said-value (value r) s e = (r, refl)
-
-pub unasked : (en : List ℕ) (p a v : ℕ) (r : EntryAt) → among v (outHops en) ≡ false → EntrySought en p a v r → r ≡ entry.Missing → Unasked en p a v
-unfolding entryFound
-unasked en p a v r n f e = record { unused = n; missing = λ q s. sym (f .first q s) ∙ ap (entryFound p a v) e }
 
 module _ (en ad ro ma : List ℕ) where
   -- one ring's, for all that no entry leaves by
@@ -74,14 +126,9 @@ module _ (en ad ro ma : List ℕ) where
   unfolding oneDma bind rowsOf rowsWith outHops at
   rests p a v q u t l =
       let y = q .searched t v (u .unused) in
-      ap (λ s. bind s (λ tx. bind (receive (rowsOf en ad ro ma) v) (λ r. value (ringTunnel tx r)))) (walk-none (rowsOf en ad ro ma) (at p a v) (u .missing l (t .entryOrder)))
+      ap (λ s. bind s (λ tx. bind (receive (rowsOf en ad ro ma) v) (λ r. value (ringTunnel tx r)))) (walk-none (rowsOf en ad ro ma) (at p a v) (u .missing l))
       ∙ ap (λ o. bind o (λ r. value (ringTunnel none r))) (y .1)
       ∙ ap value (bare-tunnel (rowsOf en ad ro ma) v (unused (rowsOf en ad ro ma) v (u .unused)) (y .0) (y .1))
 
-  pub absent : (p a v : ℕ) → Quiet en ad ro ma → Unasked en p a v → Plans en ad ro ma p (λ x. oneDma x p a v) planned.Absent
-  unfolding plannedOutcome wordsBy pathsBy planIf bind
-  absent p a v q u = record {
-    answers = λ z t l. sym (ap (λ o. bind o (λ k. value (planIf k))) (rests p a v q u t l));
-    few = omega arith;
-    three = omega arith;
-  }
+  pub all-rest : (p a : ℕ) (idle : List ℕ) → Quiet en ad ro ma → Resting en p a idle → Idle en ad ro ma p a idle
+  all-rest p a idle q u = record { rests = λ z t l j e. rests p a j q (u .rests j e) t l }

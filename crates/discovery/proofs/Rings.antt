@@ -18,7 +18,7 @@ use Rattle.path.specs.Put.{Sized}
 use Rattle.path.proofs.Writing.{refused-as}
 use Rattle.tunnel.specs.Tunnels.{Tunnel, oneDma, rings}
 use Rattle.tunnel.specs.Words.{tunnelWords, tunnelsWords}
-use Rattle.tunnel.specs.Plans.{Plan, fromBy, planOf, planIf, plannedOutcome, wordsBy, Plans}
+use Rattle.tunnel.specs.Plans.{Plan, fromBy, planOf, planIf, plannedOutcome, wordsBy, pathsBy, Plans}
 use Rattle.tunnel.specs.declared.Planned.{Planned}
 use Rattle.tunnel.specs.declared.Planned.the-variants as planned
 use Rattle.discovery.specs.Work.{Wrote, tallyOf, tallied, Marked, Idle, Drafted, Tallies, RingPut, RingsPut, PlanPut}
@@ -146,6 +146,14 @@ module _ (en ad ro ma : List ℕ) (p a : ℕ) where
     words = λ z t q o e room. w .words z t o (f .answers z t q ∙ ap (λ y. bind y (λ t. value (planIf t))) e) (one-dma-walks (rowsOf en ad ro ma) p a ring o e) room;
   }
 
+  pub idle-plan : (idle : List ℕ) → Idle en ad ro ma p a idle → (ring : ℕ) → getD idle ring 0 ≡ 1 → Plans en ad ro ma p (λ x. oneDma x p a ring) planned.Absent
+  unfolding plannedOutcome wordsBy pathsBy planIf bind
+  idle-plan idle i ring e = record {
+    answers = λ z t l. sym (ap (λ o. bind o (λ k. value (planIf k))) (i .rests z t l ring e));
+    few = omega arith;
+    three = omega arith;
+  }
+
 -- rings that are refused have no words to draft
 pub drafted-refused : (en ad ro ma : List ℕ) (p a k : ℕ) (r : Refusal) → Tallies en ad ro ma p a k (tally.Refused r) → (draft : List ℕ) → Drafted en ad ro ma p a k draft
 unfolding tallied bind
@@ -206,6 +214,11 @@ module _ (en ad ro ma : List ℕ) (p a end : ℕ) where
           let y = plan-refused plan (oneDma (rowsOf en ad ro ma) p a ring) (f .answers z t q) r e in
           y .3 ℕ ∙ sym (c .rest z t q ∙ ap (λ k. counts (rowsOf en ad ro ma) p a ring k need) left ∙ counts-refused (rowsOf en ad ro ma) p a ring (end - (ring + 1)) need (y .0) (y .1) (y .2));
     }
+
+  -- a ring that has none is passed
+  pub counted-past : (need ring : ℕ) → Counted need ring → ring < end → (idle : List ℕ) → Idle en ad ro ma p a idle → getD idle ring 0 ≡ 1 → Counted need (ring + 1)
+  unfolding tallyOf
+  counted-past need ring c more idle i e = subst (λ n. Counted n (ring + 1)) (let y : need + 0 ≡ need = omega arith in y) (counted-on need ring c more planned.Absent (idle-plan en ad ro ma p a idle i ring e) 0 refl)
 
   -- ---- the words
 

@@ -1,5 +1,5 @@
 -- For the contracts of private functions only. No promise to a caller rests on these. Assumes nothing.
-use Prim.Native.Nat.{ℕ, _+_, _≤_, _<_}
+use Prim.Native.Nat.{ℕ, _+_, _/_, _%_, _≤_, _<_}
 use mathlib.Core.Path.{_≡_}
 use mathlib.Core.Logic.{_⊎_}
 use mathlib.Core.Bool.{Bool, false, cond, _||_}
@@ -10,7 +10,7 @@ use lib.ListN.{length, getD, take, drop}
 use Rattle.refusal.specs.Outcome.{Outcome, value, bind}
 use Rattle.usb4.specs.declared.TunnelType.the-variants as tunnelType
 use Rattle.tables.specs.Rows.{EntryRow, Rows, entryIn}
-use Rattle.tables.specs.Packed.{entriesIn, entryUnit, Sorted}
+use Rattle.tables.specs.Packed.{entriesIn}
 use Rattle.load.specs.Answers.{refusedBy}
 use Rattle.walk.specs.Rule.{walkFrom}
 use Rattle.walk.specs.Tables.{rowsOf, Tabled}
@@ -92,7 +92,19 @@ pub record Quiet (en ad ro ma : List ℕ) : Type 0 where
 -- no entry leaves by a ring, and none stands at it
 pub record Unasked (en : List ℕ) (p a ring : ℕ) : Type 0 where
   pub unused : among ring (outHops en) ≡ false
-  pub missing : p < 65536 → Sorted entryUnit en → entryIn (entriesIn en) p a ring ≡ none
+  pub missing : p < 65536 → entryIn (entriesIn en) p a ring ≡ none
+
+-- a ring is not marked, and no other is marked anew
+pub record Unmarked (ring : ℕ) (old new : List ℕ) : Type 0 where
+  pub keeps : (j : ℕ) → getD new j 0 ≡ 1 → (getD old j 0 ≡ 1) × (ring ≡ j → ⊥)
+
+-- the same of the ring that an entry leaves by and, where the entry is an owner's, of the one that it stands at
+pub record Spared (w owner : ℕ) (old new : List ℕ) : Type 0 where
+  pub keeps : (j : ℕ) → getD new j 0 ≡ 1 → (getD old j 0 ≡ 1) × (w % 65536 ≡ j → ⊥) × (w / 1099511627776 ≡ owner → w / 16777216 % 65536 ≡ j → ⊥)
+
+-- a ring that is marked is one of those
+pub record Resting (en : List ℕ) (p a : ℕ) (idle : List ℕ) : Type 0 where
+  pub rests : (j : ℕ) → getD idle j 0 ≡ 1 → Unasked en p a j
 
 -- the words of the tunnels of k rings from 1 on
 pub record Tallies (en ad ro ma : List ℕ) (p a k : ℕ) (r : Tally) : Type 0 where

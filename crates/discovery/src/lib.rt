@@ -8,7 +8,7 @@ ghost use Rattle.adapter.specs.Adapter.{factsRow, adapterSite, maxHopOutcome};
 ghost use Rattle.tunnel.specs.Tunnels.{discover, oneDma};
 ghost use Rattle.tunnel.specs.Plans.{Plans, fromBy, pathsBy};
 ghost use Rattle.discovery.specs.Tables.{Discovered};
-ghost use Rattle.discovery.specs.Work.{PathPut, PlanPut, Marked, Idle, Quiet, Unasked, among, outHops, Drafted, Tallies, RingPut, RingsPut, OneAnswered, Answered, dmaBy, tunnelBy, tallyOf, ringsEnd};
+ghost use Rattle.discovery.specs.Work.{PathPut, PlanPut, Marked, Unmarked, Spared, Resting, Idle, Quiet, among, outHops, Drafted, Tallies, RingPut, RingsPut, OneAnswered, Answered, dmaBy, tunnelBy, tallyOf, ringsEnd};
 use adapter::Facts;
 use adapter::MaxHop;
 use load::Refusal;
@@ -40,9 +40,6 @@ pub enum Tally {
 const MOST_ENTRIES: usize = 4096;
 
 const MOST_DEVICES: usize = 4096;
-
-// With more entries, looking through them for each ring takes longer than a search that finds no xdomain.
-const FEW_ENTRIES: usize = 16;
 
 // The head word of a tunnel.
 fn tunnel_word(kind: TunnelType, closed: bool, paths: u8) -> u32
@@ -169,33 +166,10 @@ fn leaves_by(entries: &[u64], hop: u16) -> bool
     false
 }
 
-// Whether a device is an xdomain, by its mark. Only time hangs on it.
-fn has_xdomain(marks: &[u64]) -> bool {
-    let mut i: usize = 0;
-    while i < marks.len() {
-        if marks[i] / 281474976710656 % 16 == 2 {
-            return true;
-        }
-        i += 1;
-    }
-    false
-}
-
-// Whether to look through the entries for each ring takes longer than the search that it is to save.
-fn is_dear(entries: &[u64], marks: &[u64]) -> bool {
-    if entries.len() <= FEW_ENTRIES {
-        return false;
-    }
-    !has_xdomain(marks)
-}
-
 // Whether the search for a receive path is not refused for a ring that no entry leaves by. It goes alike for all of these, so one is asked: 65,535, which no ring of a survey by our descriptions is.
 fn is_quiet(entries: &[u64], adapters: &[u64], routes: &[u64], marks: &[u64]) -> bool
     ensures { λ r. ⌜ (r ≡ true → Quiet (now (entries .entry)) (now (adapters .entry)) (now (routes .entry)) (now (marks .entry))) ⌝ }
 {
-    if is_dear(entries, marks) {
-        return false;
-    }
     if leaves_by(entries, 65535) {
         return false;
     }
@@ -214,52 +188,66 @@ fn is_quiet(entries: &[u64], adapters: &[u64], routes: &[u64], marks: &[u64]) ->
     }
 }
 
-// Whether no entry leaves by a ring, and none stands at it.
-fn is_unasked(entries: &[u64], place: usize, adapter: u8, ring: u16) -> bool
-    ensures { λ r. ⌜ (r ≡ true → Unasked (now (entries .entry)) place adapter ring) ⌝ }
+// Unmarks a ring.
+fn unmark(idle: &mut [u8], ring: usize)
+    ensures { λ _. ⌜ Unmarked ring (now (idle .entry)) (now (idle .exit)) ⌝ }
 {
-    if leaves_by(entries, ring) {
-        return false;
+    if idle.len() <= ring {
+        return;
     }
-    match search::find_entry(entries, place, adapter, ring) {
-        EntryAt::Missing => true,
-        EntryAt::Entry {
-            out_adapter: _,
-            out_hop: _,
-        } => false,
+    idle[ring] = 0;
+}
+
+// Unmarks the ring that an entry leaves by and, where it stands at an adapter, the one that it stands at.
+fn unmark_used(idle: &mut [u8], entry: u64, owner: u64)
+    ensures { λ _. ⌜ Spared entry owner (now (idle .entry)) (now (idle .exit)) ⌝ }
+{
+    unmark(idle, (entry % 65536) as usize);
+    if entry / 1099511627776 != owner {
+        return;
+    }
+    unmark(idle, (entry / 16777216 % 65536) as usize);
+}
+
+// Unmarks the rings that entries leave by, and those that stand at an adapter of the device at a place.
+fn unmark_all(entries: &[u64], place: usize, adapter: u8, idle: &mut [u8])
+    ensures { λ _. ⌜ Resting (now (entries .entry)) place adapter (now (idle .exit)) ⌝ }
+{
+    let owner = (place % 65536) as u64 * 256 + adapter as u64;
+    let mut i: usize = 0;
+    while i < entries.len() {
+        unmark_used(idle, entries[i], owner);
+        i += 1;
     }
 }
 
-// A ring's tunnel: `one_dma`, but that most rings of a large host interface need no search.
-fn plan_ring(
+// The rings that are known to have no tunnel before each is asked, marked with 1: HopIDs have 11 bits.
+fn at_rest(
     entries: &[u64],
     adapters: &[u64],
     routes: &[u64],
     marks: &[u64],
     place: usize,
     adapter: u8,
-    ring: u16,
-    quiet: bool,
-) -> Planned
-    requires { ⌜ (quiet ≡ true → Quiet (now entries) (now adapters) (now routes) (now marks)) ⌝ }
-    ensures { λ r. ⌜ Plans (now (entries .entry)) (now (adapters .entry)) (now (routes .entry)) (now (marks .entry)) place (λ x. oneDma x place adapter ring) r ⌝ }
+) -> [u8; 2048]
+    ensures { λ r. ⌜ Idle (now (entries .entry)) (now (adapters .entry)) (now (routes .entry)) (now (marks .entry)) place adapter r ⌝ }
 {
-    if quiet {
-        if is_unasked(entries, place, adapter, ring) {
-            return Planned::Absent;
-        }
+    if !is_quiet(entries, adapters, routes, marks) {
+        return [0u8; 2048];
     }
-    tunnel::one_dma(entries, adapters, routes, marks, place, adapter, ring)
+    let mut idle = [1u8; 2048];
+    unmark_all(entries, place, adapter, &mut idle);
+    idle
 }
 
 // Marks a ring that needs no words.
-fn mark(idle: &mut [u8; 64], ring: u32, words: usize)
+fn mark(idle: &mut [u8; 2048], ring: u32, words: usize)
     ensures { λ _. ⌜ Marked ring words (now (idle .entry)) (now (idle .exit)) ⌝ }
 {
     if 0 < words {
         return;
     }
-    if 63 < ring {
+    if 2047 < ring {
         return;
     }
     idle[ring as usize] = 1;
@@ -274,11 +262,10 @@ fn tally_rings(
     place: usize,
     adapter: u8,
     end: u32,
-    quiet: bool,
-    idle: &mut [u8; 64],
+    idle: &mut [u8; 2048],
     draft: &mut [u32],
 ) -> Tally
-    requires { ⌜ (1 ≤ end) × (end ≤ 65536) × Idle (now entries) (now adapters) (now routes) (now marks) place adapter (now idle) × (quiet ≡ true → Quiet (now entries) (now adapters) (now routes) (now marks)) ⌝ }
+    requires { ⌜ (1 ≤ end) × (end ≤ 65536) × Idle (now entries) (now adapters) (now routes) (now marks) place adapter (now idle) ⌝ }
     ensures { λ r. ⌜ Tallies (now (entries .entry)) (now (adapters .entry)) (now (routes .entry)) (now (marks .entry)) place adapter (end - 1) r × Idle (now (entries .entry)) (now (adapters .entry)) (now (routes .entry)) (now (marks .entry)) place adapter (now (idle .exit)) ⌝ }
     ensures { λ r. ⌜ Drafted (now (entries .entry)) (now (adapters .entry)) (now (routes .entry)) (now (marks .entry)) place adapter (end - 1) (now (draft .exit)) ⌝ }
 {
@@ -286,36 +273,32 @@ fn tally_rings(
     let mut need: usize = 0;
     let mut ring: u32 = 1;
     while ring < end {
-        let plan = plan_ring(
-            entries,
-            adapters,
-            routes,
-            marks,
-            place,
-            adapter,
-            ring as u16,
-            quiet,
-        );
-        match tally_plan(plan) {
-            Tally::Refused(refusal) => {
-                return Tally::Refused(refusal);
-            }
-            Tally::Words(words) => {
-                need += words;
-                mark(idle, ring, words);
-                at = put_plan(entries, adapters, routes, marks, plan, draft, at);
+        if is_idle(idle, ring) {
+            ring += 1;
+        } else {
+            let r = ring as u16;
+            let plan = tunnel::one_dma(entries, adapters, routes, marks, place, adapter, r);
+            match tally_plan(plan) {
+                Tally::Refused(refusal) => {
+                    return Tally::Refused(refusal);
+                }
+                Tally::Words(words) => {
+                    need += words;
+                    mark(idle, ring, words);
+                    at = put_plan(entries, adapters, routes, marks, plan, draft, at);
+                    ring += 1;
+                }
             }
         }
-        ring += 1;
     }
     Tally::Words(need)
 }
 
 // Whether a ring is marked.
-fn is_idle(idle: &[u8; 64], ring: u32) -> bool
+fn is_idle(idle: &[u8; 2048], ring: u32) -> bool
     ensures { λ r. ⌜ (r ≡ true → getD (now (idle .entry)) ring 0 ≡ 1) ⌝ }
 {
-    if ring < 64 {
+    if ring < 2048 {
         return idle[ring as usize] == 1;
     }
     false
@@ -330,27 +313,18 @@ fn put_ring(
     place: usize,
     adapter: u8,
     ring: u32,
-    quiet: bool,
-    idle: &[u8; 64],
+    idle: &[u8; 2048],
     output: &mut [u32],
     at: usize,
 ) -> usize
-    requires { ⌜ (ring < 65536) × (at ≤ length (now output)) × Idle (now entries) (now adapters) (now routes) (now marks) place adapter (now idle) × (quiet ≡ true → Quiet (now entries) (now adapters) (now routes) (now marks)) ⌝ }
+    requires { ⌜ (ring < 65536) × (at ≤ length (now output)) × Idle (now entries) (now adapters) (now routes) (now marks) place adapter (now idle) ⌝ }
     ensures { λ r. ⌜ RingPut (now (entries .entry)) (now (adapters .entry)) (now (routes .entry)) (now (marks .entry)) place adapter ring at (now (output .entry)) r (now (output .exit)) ⌝ }
 {
     if is_idle(idle, ring) {
         return at;
     }
-    let plan = plan_ring(
-        entries,
-        adapters,
-        routes,
-        marks,
-        place,
-        adapter,
-        ring as u16,
-        quiet,
-    );
+    let r = ring as u16;
+    let plan = tunnel::one_dma(entries, adapters, routes, marks, place, adapter, r);
     put_plan(entries, adapters, routes, marks, plan, output, at)
 }
 
@@ -363,11 +337,10 @@ fn put_rings(
     place: usize,
     adapter: u8,
     end: u32,
-    quiet: bool,
-    idle: &[u8; 64],
+    idle: &[u8; 2048],
     output: &mut [u32],
 )
-    requires { ⌜ (1 ≤ end) × (end ≤ 65536) × Idle (now entries) (now adapters) (now routes) (now marks) place adapter (now idle) × (quiet ≡ true → Quiet (now entries) (now adapters) (now routes) (now marks)) ⌝ }
+    requires { ⌜ (1 ≤ end) × (end ≤ 65536) × Idle (now entries) (now adapters) (now routes) (now marks) place adapter (now idle) ⌝ }
     ensures { λ _. ⌜ RingsPut (now (entries .entry)) (now (adapters .entry)) (now (routes .entry)) (now (marks .entry)) place adapter (end - 1) (now (output .entry)) (now (output .exit)) ⌝ }
 {
     let mut at: usize = 0;
@@ -384,7 +357,6 @@ fn put_rings(
             place,
             adapter,
             ring,
-            quiet,
             idle,
             output,
             at,
@@ -414,12 +386,11 @@ fn put_tallied(
     place: usize,
     adapter: u8,
     end: u32,
-    quiet: bool,
-    idle: &[u8; 64],
+    idle: &[u8; 2048],
     draft: &[u32],
     output: &mut [u32],
 )
-    requires { ⌜ (1 ≤ end) × (end ≤ 65536) × Idle (now entries) (now adapters) (now routes) (now marks) place adapter (now idle) × (quiet ≡ true → Quiet (now entries) (now adapters) (now routes) (now marks)) × Drafted (now entries) (now adapters) (now routes) (now marks) place adapter (end - 1) (now draft) ⌝ }
+    requires { ⌜ (1 ≤ end) × (end ≤ 65536) × Idle (now entries) (now adapters) (now routes) (now marks) place adapter (now idle) × Drafted (now entries) (now adapters) (now routes) (now marks) place adapter (end - 1) (now draft) ⌝ }
     ensures { λ _. ⌜ RingsPut (now (entries .entry)) (now (adapters .entry)) (now (routes .entry)) (now (marks .entry)) place adapter (end - 1) (now (output .entry)) (now (output .exit)) ⌝ }
 {
     let need = output.len();
@@ -435,7 +406,6 @@ fn put_tallied(
         place,
         adapter,
         end,
-        quiet,
         idle,
         output,
     );
@@ -503,8 +473,7 @@ fn put_dma(
         }))),
         MaxHop::Hop(largest) => {
             let end = rings_end(largest);
-            let quiet = is_quiet(entries, adapters, routes, marks);
-            let mut idle = [0u8; 64];
+            let mut idle = at_rest(entries, adapters, routes, marks, place, adapter);
             let mut draft = [0u32; 1024]; // room for the words of some 140 rings
             match tally_rings(
                 entries,
@@ -514,7 +483,6 @@ fn put_dma(
                 place,
                 adapter,
                 end,
-                quiet,
                 &mut idle,
                 &mut draft,
             ) {
@@ -531,7 +499,6 @@ fn put_dma(
                         place,
                         adapter,
                         end,
-                        quiet,
                         &idle,
                         &draft,
                         &mut output[..need],

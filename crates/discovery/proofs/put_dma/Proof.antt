@@ -6,7 +6,6 @@ use borrow.Author.Needs.{needs}
 use Rattle.adapter.specs.Adapter.{adapterSite}
 use Rattle.discovery.proofs.Past.{end-range}
 use Rattle.discovery.proofs.Answering.{dma-absent, dma-unread, dma-refused, dma-short, dma-put}
-use Rattle.discovery.proofs.Rings.{idle-start}
 use Rattle.discovery.proofs.put_dma.Statement.{statement}
 use Rattle.discovery.proofs.put_dma.Tie as tie
 
@@ -22,14 +21,14 @@ enum-known-most c = search needs
 rings-end-requires : tie.Need-rings-end-requires
 rings-end-requires c κs = search needs
 
-is-quiet-requires : tie.Need-is-quiet-requires
-is-quiet-requires c κs = search needs
+at-rest-requires : tie.Need-at-rest-requires
+at-rest-requires c κs = search needs
 
 slice-aggregate-tally-rings : tie.Need-slice-aggregate-tally-rings
 slice-aggregate-tally-rings c = search needs
 
 tally-rings-requires : tie.Need-tally-rings-requires
-tally-rings-requires c κs = let e = subst (λ n. (1 ≤ n) × (n ≤ 65536)) (sym (c .before .before .before .rings-end .ensures)) (end-range _) in (e .0, e .1, idle-start _ _ _ _ _ _ 64, c .before .before .is-quiet .ensures)
+tally-rings-requires c κs = let e = subst (λ n. (1 ≤ n) × (n ≤ 65536)) (sym (c .before .before .before .rings-end .ensures)) (end-range _) in (e .0, e .1, c .before .before .at-rest .ensures)
 
 enum-known-refusal : tie.Need-enum-known-refusal
 enum-known-refusal c = search needs
@@ -38,7 +37,7 @@ enum-known-need : tie.Need-enum-known-need
 enum-known-need c = search needs
 
 returns : tie.Need-returns
-returns c = let m = c .before .before .before .before .before in dma-short _ _ _ _ _ _ _ _ _ _ (m .before .before .before .before .before .before .most .given .1) (m .before .before .before .before .rings-end .ensures) _ (m .tally-rings .ensures .0 .0) _ (c .before .before .need .given .1) (c .if1 .taken)
+returns c = let m = c .before .before .before .before .before in let r = m .before .before .before .before in dma-short _ _ _ _ _ _ _ _ _ _ (r .before .before .most .given .1) (r .rings-end .ensures) _ (m .tally-rings .ensures .0 .0) _ (c .before .before .need .given .1) (c .if1 .taken)
 
 slice-aggregate-put-tallied : tie.Need-slice-aggregate-put-tallied
 slice-aggregate-put-tallied c = search needs
@@ -50,7 +49,7 @@ slice-aggregate-put-tallied-2 : tie.Need-slice-aggregate-put-tallied-2
 slice-aggregate-put-tallied-2 c = sym (length-take-le _ _ (c .before .before .before .if1 .left))
 
 put-tallied-requires : tie.Need-put-tallied-requires
-put-tallied-requires c κs = let m = c .before .before .before .before .before .before .before .before in let e = subst (λ n. (1 ≤ n) × (n ≤ 65536)) (sym (m .before .before .before .before .rings-end .ensures)) (end-range _) in (e .0, e .1, m .tally-rings .ensures .0 .1, m .before .before .before .is-quiet .ensures, m .tally-rings .ensures .1)
+put-tallied-requires c κs = let m = c .before .before .before .before .before .before .before .before in let e = subst (λ n. (1 ≤ n) × (n ≤ 65536)) (sym (m .before .before .before .before .rings-end .ensures)) (end-range _) in (e .0, e .1, m .tally-rings .ensures .0 .1, m .tally-rings .ensures .1)
 
 returns-2 : tie.Need-returns-2
 returns-2 c = dma-absent _ _ _ _ _ _ _ _ (c .enum-told .given .1)
@@ -60,13 +59,13 @@ unfolding adapterSite
 returns-3 c = dma-unread _ _ _ _ _ _ _ _ (c .enum-told2 .given .1)
 
 returns-4 : tie.Need-returns-4
-returns-4 c = let m = c .before .before .before .before in dma-refused _ _ _ _ _ _ _ _ _ _ (m .before .before .before .before .before .before .most .given .1) (m .before .before .before .before .rings-end .ensures) _ (m .tally-rings .ensures .0 .0) _ (c .before .refusal .given .1)
+returns-4 c = let m = c .before .before .before .before in let r = m .before .before .before .before in dma-refused _ _ _ _ _ _ _ _ _ _ (r .before .before .most .given .1) (r .rings-end .ensures) _ (m .tally-rings .ensures .0 .0) _ (c .before .refusal .given .1)
 
 same-length : tie.Need-same-length
 same-length c = search needs
 
 returns-5 : tie.Need-returns-5
-returns-5 c = let m = c .before .before .before .before .before .before .before .before .before .before .before in let w = c .before .before in dma-put _ _ _ _ _ _ _ _ _ _ (m .before .before .before .before .before .before .most .given .1) (m .before .before .before .before .rings-end .ensures) _ (m .tally-rings .ensures .0 .0) _ (c .before .before .before .before .before .before .before .before .need .given .1) (c .before .before .before .before .before .before .if1 .left) (w .put-tallied .last .1 .1 .1 .1 .1 .1 .1 .1 .1 .1 .0) (w .put-tallied .kept .1 .1 .1 .1 .1 .1 .1 .1 .1 .1 .0) (w .put-tallied .ensures)
+returns-5 c = let m = c .before .before .before .before .before .before .before .before .before .before .before in let r = m .before .before .before .before in let w = c .before .before in dma-put _ _ _ _ _ _ _ _ _ _ (r .before .before .most .given .1) (r .rings-end .ensures) _ (m .tally-rings .ensures .0 .0) _ (c .before .before .before .before .before .before .before .before .need .given .1) (c .before .before .before .before .before .before .if1 .left) (w .put-tallied .last .1 .1 .1 .1 .1 .1 .1 .1 .1 .0) (w .put-tallied .kept .1 .1 .1 .1 .1 .1 .1 .1 .1 .0) (w .put-tallied .ensures)
 
 pub put-dma-spec : {M : Type 1} → statement M
 put-dma-spec =
@@ -76,7 +75,7 @@ put-dma-spec =
     enum-told-2
     enum-known-most
     rings-end-requires
-    is-quiet-requires
+    at-rest-requires
     slice-aggregate-tally-rings
     tally-rings-requires
     enum-known-refusal
