@@ -4,3 +4,5 @@ pub mod Lines
 pub mod Reading
 pub mod Sorting
 pub mod Order
+pub mod Buckets
+pub mod Bytes
