@@ -6,3 +6,4 @@ pub mod Sorting
 pub mod Order
 pub mod Buckets
 pub mod Bytes
+pub mod Dealing
