@@ -1,4 +1,3 @@
-pub mod LineStarts
 pub mod Groups
 pub mod Lines
 pub mod Reading

@@ -1,5 +1,5 @@
 -- Document 01, module 3: a dump, as `read` reads it. Assumes nothing.
-use Prim.Native.Nat.{ℕ, _*_}
+use Prim.Native.Nat.{ℕ}
 use mathlib.Core.Path.{_≡_}
 use mathlib.Core.Bool.{cond, _||_}
 use mathlib.Core.List.{List, [], _∷_, _++_, map}
@@ -7,23 +7,12 @@ use lib.Dec.{ltb}
 use lib.ListN.{length, drop, replicate}
 use Rattle.refusal.specs.Outcome.{Outcome, refused, value}
 use Rattle.scan.specs.Scan.{lines, isHigh, placeFrom}
-use Rattle.register.specs.Line.{meaning}
 use Rattle.groups.specs.Group.{groupOf, words}
+use Rattle.room.specs.Records.{recordsOf, wordsNeeded}
 use Rattle.dump.specs.Sort.{sort}
 use Rattle.register.specs.declared.Register.{Register}
-use Rattle.register.specs.declared.Met.{Met}
-use Rattle.register.specs.declared.Met.the-variants as met
 use Rattle.dump.specs.declared.Dump.{Dump}
 use Rattle.dump.specs.declared.Dump.the-variants as dump
-
-unfoldable pub withRecord : Met → List Register → List Register
-withRecord (met.Record r) rs = r ∷ rs
-withRecord (met.Skipped w) rs = rs
-
--- the records of lines, in their order; the other lines are skipped
-unfoldable pub recordsOf : List (List ℕ) → List Register
-recordsOf [] = []
-recordsOf (l ∷ ls) = withRecord (meaning l) (recordsOf ls)
 
 abbrev pub offset : Register → ℕ
 offset r = r .offset
@@ -34,10 +23,6 @@ recordsIn s = sort offset (recordsOf (lines s))
 
 unfoldable pub dumpWords : List ℕ → List ℕ
 dumpWords s = words (map groupOf (recordsIn s))
-
--- four words a record, in the scratch and in the output
-unfoldable pub wordsNeeded : List ℕ → ℕ
-wordsNeeded s = 4 * length (recordsOf (lines s))
 
 -- by the words of room in each: a byte above 127 is 1, with its place; too little room is 2, with the words needed; else the number of records
 unfoldable pub dumpAnswer : List ℕ → ℕ → ℕ → Outcome ℕ

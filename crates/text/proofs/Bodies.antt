@@ -5,7 +5,8 @@ use mathlib.Core.Path.{_≡_, refl, _∙_, ap, sym, subst}
 use mathlib.Core.List.{List, [], _∷_, _++_, append-nil}
 use lib.ListN.{length, take, drop, length-append, take-append-drop}
 use Rattle.scan.specs.Scan.{lines, isLineFeed, placeFrom}
-use Rattle.dump.specs.Dump.{recordsOf as dumpRecords, recordsIn, dumpWords}
+use Rattle.room.specs.Records.{recordsOf as dumpRecords}
+use Rattle.dump.specs.Dump.{recordsIn, dumpWords}
 use Rattle.dump.proofs.Groups.{put-step, put-end}
 use Rattle.markers.specs.Markers.{Marker, Marker.router, Marker.xdomain, Marker.usb4, Marker.regs, Marker.adapter, Marker.paths, Marker.noPaths, Marker.bad, markerOf}
 use Rattle.text.specs.Text.{Section, adapterHead, deviceWords, markerWords, surveyWords}

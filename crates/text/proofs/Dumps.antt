@@ -16,11 +16,12 @@ use Rattle.register.specs.declared.Register.{Register}
 use Rattle.groups.specs.Group.{groupOf, words}
 use Rattle.groups.specs.declared.Group.{Group}
 use Rattle.dump.specs.Sort.{insert, sort}
-use Rattle.dump.specs.Dump.{offset, recordsOf as dumpRecords, recordsIn, dumpWords, wordsNeeded, dumpAnswer, outputAfter, dumpOutcome, ReadDone}
+use Rattle.room.specs.Records.{recordsOf as dumpRecords, wordsNeeded}
+use Rattle.dump.specs.Dump.{offset, recordsIn, dumpWords, dumpAnswer, outputAfter, dumpOutcome, ReadDone}
 use Rattle.dump.specs.declared.Dump.{Dump}
 use Rattle.dump.specs.declared.Dump.the-variants as dump
 use Rattle.dump.proofs.Groups.{length-words}
-use Rattle.dump.proofs.Lines.{count-cons, record-bytes}
+use Rattle.room.proofs.Lines.{count-cons, record-bytes}
 use Rattle.text.specs.Work.{Low, pathWords, PutAt}
 use Rattle.text.specs.Text.{pathGroup}
 use Rattle.scan.proofs.Laws.{stops}

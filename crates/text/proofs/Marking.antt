@@ -21,7 +21,8 @@ use Rattle.register.specs.declared.Met.the-variants as met
 use Rattle.groups.specs.Group.{groupOf, words}
 use Rattle.dump.proofs.Groups.{Whole, Whole.empty, Whole.group, whole}
 use Rattle.dump.specs.Sort.{insert, sort}
-use Rattle.dump.specs.Dump.{offset, withRecord, recordsOf as dumpRecords, recordsIn, dumpWords}
+use Rattle.room.specs.Records.{withRecord, recordsOf as dumpRecords}
+use Rattle.dump.specs.Dump.{offset, recordsIn, dumpWords}
 use Rattle.text.specs.Text.{pathGroup}
 use Rattle.text.specs.Work.{marked, pathWords}
 

@@ -9,7 +9,7 @@ use lib.ListN.{length, take, drop, getD, set, drop-of-length-le}
 use lib.Seq.{sets-eq}
 use borrow.Author.Tests.{eq-eqb, ne-eqb}
 use Rattle.scan.specs.Scan.{lines, isLineFeed, placeFrom}
-use Rattle.dump.specs.Dump.{recordsOf as dumpRecords}
+use Rattle.room.specs.Records.{recordsOf as dumpRecords}
 use Rattle.markers.specs.Markers.{Marker, Marker.router, Marker.xdomain, Marker.usb4, Marker.regs, Marker.adapter, Marker.paths, Marker.noPaths, Marker.bad, markerOf}
 use Rattle.grammar.specs.Grammar.{itemsOf}
 use Rattle.dump.proofs.Groups.{put-four}

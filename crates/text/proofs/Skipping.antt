@@ -16,7 +16,7 @@ use Rattle.register.specs.Line.{meaning}
 use Rattle.register.specs.declared.Register.{Register}
 use Rattle.register.specs.declared.Met.{Met}
 use Rattle.register.specs.declared.Met.the-variants as met
-use Rattle.dump.specs.Dump.{withRecord, recordsOf as dumpRecords}
+use Rattle.room.specs.Records.{withRecord, recordsOf as dumpRecords}
 use Rattle.markers.specs.Markers.{isMarker, markerOf}
 use Rattle.grammar.specs.Grammar.{Item, Item.marker, itemBy, itemOf, itemsOf}
 use Rattle.grammar.proofs.Laws.{items-at, items-end}

@@ -9,7 +9,8 @@ use Rattle.scan.specs.Scan.{lines}
 use Rattle.register.specs.declared.Register.{Register}
 use Rattle.groups.specs.Group.{words}
 use Rattle.dump.specs.Sort.{sort}
-use Rattle.dump.specs.Dump.{offset, recordsOf as dumpRecords}
+use Rattle.room.specs.Records.{recordsOf as dumpRecords}
+use Rattle.dump.specs.Dump.{offset}
 use Rattle.markers.specs.Markers.{Marker, Marker.router, Marker.xdomain, Marker.usb4, Marker.regs, Marker.adapter, Marker.paths, Marker.noPaths, Marker.bad, markerOf}
 use Rattle.grammar.specs.Grammar.{itemsOf}
 use Rattle.text.specs.Text.{Section, recordsOf, sectionsOf, pathGroup, markerWords}
