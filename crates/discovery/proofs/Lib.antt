@@ -3,4 +3,5 @@ pub mod Writing
 pub mod Rings
 pub mod Past
 pub mod Quiet
+pub mod Notes
 pub mod Answering

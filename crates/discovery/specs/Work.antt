@@ -17,6 +17,8 @@ use Rattle.walk.specs.Tables.{rowsOf, Tabled}
 use Rattle.path.specs.Words.{pathWords}
 use Rattle.path.specs.Put.{Sized}
 use Rattle.receive.specs.Receive.{Receive, receive}
+use Rattle.receive.specs.Tables.{Said, receivedOutcome, hopsBy, noteStand, walkSaid, byNotes, isPath, Foretells}
+use Rattle.receive.specs.declared.Received.{Received}
 use Rattle.tunnel.specs.Tunnels.{Path, Tunnel, downAndUp, displayPort, oneDma, rings, orNone, alone}
 use Rattle.tunnel.specs.Words.{tunnelsWords}
 use Rattle.tunnel.specs.Plans.{From, startOf, planIf, plannedOutcome}
@@ -105,6 +107,26 @@ pub record Spared (w owner : ℕ) (old new : List ℕ) : Type 0 where
 -- a ring that is marked is one of those
 pub record Resting (en : List ℕ) (p a : ℕ) (idle : List ℕ) : Type 0 where
   pub rests : (j : ℕ) → getD idle j 0 ≡ 1 → Unasked en p a j
+
+-- how many notes of a search tell of all rings; 64 for none
+pub record Known (found : Received) (noted r : ℕ) : Type 0 where
+  pub within : r ≤ 64
+  pub known : r < 64 → (r ≡ noted) × (isPath found ≡ false)
+
+-- fewer than 64 notes, with what the search came to, tell of all rings
+pub record Told (en ad ro ma notes : List ℕ) (last : Received) : Type 0 where
+  pub tells : length notes < 64 → Foretells en ad ro ma notes last
+  pub few : hopsBy last ≤ length en
+
+-- the first note of a path that leaves by a ring, or there is none
+pub record NoteFound (notes : List ℕ) (ring r : ℕ) : Type 0 where
+  pub here : r < length notes → (x : Rows) (rest : Outcome Said) → byNotes x ring notes rest ≡ walkSaid x ring (noteStand (getD notes r 0))
+  pub none-there : length notes ≤ r → (x : Rows) (rest : Outcome Said) → byNotes x ring notes rest ≡ rest
+
+-- what is said of a note's path
+pub record NotePath (en ad ro ma : List ℕ) (ring note : ℕ) (r : Received) : Type 0 where
+  pub says : Tabled en ad ro → receivedOutcome ring r ≡ walkSaid (rowsOf en ad ro ma) ring (noteStand note)
+  pub few : hopsBy r ≤ length en
 
 -- the words of the tunnels of k rings from 1 on
 pub record Tallies (en ad ro ma : List ℕ) (p a k : ℕ) (r : Tally) : Type 0 where

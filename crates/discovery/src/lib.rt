@@ -1,14 +1,16 @@
 // Discovery (module 7, `Tunnel::discover`) on the tables that a survey is loaded to: a tally first, then the words.
-ghost use Prim.Native.Nat.{_+_, _*_, _-_, _≤_, _<_};
+ghost use Prim.Native.Nat.{ℕ, _+_, _*_, _-_, _≤_, _<_};
 ghost use mathlib.Core.Path.{_≡_};
 ghost use mathlib.Core.Bool.{true, cond};
+ghost use mathlib.Core.List.{List};
 ghost use lib.ListN.{length, getD};
 ghost use Rattle.usb4.specs.Numbers.{tunnelNumber};
 ghost use Rattle.adapter.specs.Adapter.{factsRow, adapterSite, maxHopOutcome};
+ghost use Rattle.receive.specs.Tables.{Receives};
 ghost use Rattle.tunnel.specs.Tunnels.{discover, oneDma};
 ghost use Rattle.tunnel.specs.Plans.{Plans, fromBy, pathsBy};
 ghost use Rattle.discovery.specs.Tables.{Discovered};
-ghost use Rattle.discovery.specs.Work.{PathPut, PlanPut, Marked, Unmarked, Spared, Resting, Idle, Quiet, among, outHops, Drafted, Tallies, RingPut, RingsPut, OneAnswered, Answered, dmaBy, tunnelBy, tallyOf, ringsEnd};
+ghost use Rattle.discovery.specs.Work.{PathPut, PlanPut, Marked, Unmarked, Spared, Resting, Idle, Quiet, Known, Told, NoteFound, NotePath, among, outHops, Drafted, Tallies, RingPut, RingsPut, OneAnswered, Answered, dmaBy, tunnelBy, tallyOf, ringsEnd};
 use adapter::Facts;
 use adapter::MaxHop;
 use load::Refusal;
@@ -17,10 +19,10 @@ use refusal::Fault;
 use refusal::Site;
 use tables::AdapterFound;
 use tables::DeviceFound;
-use tables::EntryAt;
 use tunnel::Planned;
 use tunnel::Start;
 use usb4::TunnelType;
+use walk::Walked;
 
 // A list of tunnels with its number of words, no list, the words needed (2), or another refusal.
 pub enum TunnelsAnswer {
@@ -167,13 +169,13 @@ fn leaves_by(entries: &[u64], hop: u16) -> bool
 }
 
 // Whether the search for a receive path is not refused for a ring that no entry leaves by. It goes alike for all of these, so one is asked: 65,535, which no ring of a survey by our descriptions is.
-fn is_quiet(entries: &[u64], adapters: &[u64], routes: &[u64], marks: &[u64]) -> bool
-    ensures { λ r. ⌜ (r ≡ true → Quiet (now (entries .entry)) (now (adapters .entry)) (now (routes .entry)) (now (marks .entry))) ⌝ }
+fn is_quiet(entries: &[u64], found: Received) -> bool
+    ensures { λ r. ⌜ ((ad ro ma : List ℕ) → Receives (now (entries .entry)) ad ro ma 65535 found → r ≡ true → Quiet (now (entries .entry)) ad ro ma) ⌝ }
 {
     if leaves_by(entries, 65535) {
         return false;
     }
-    match receive::receive(entries, adapters, routes, marks, 65535) {
+    match found {
         Received::Nothing => true,
         Received::Lost => true,
         Received::Refused(_) => false,
@@ -222,22 +224,128 @@ fn unmark_all(entries: &[u64], place: usize, adapter: u8, idle: &mut [u8])
 }
 
 // The rings that are known to have no tunnel before each is asked, marked with 1: HopIDs have 11 bits.
-fn at_rest(
+fn at_rest(entries: &[u64], place: usize, adapter: u8, found: Received) -> [u8; 2048]
+    ensures { λ r. ⌜ ((ad ro ma : List ℕ) → Receives (now (entries .entry)) ad ro ma 65535 found → Idle (now (entries .entry)) ad ro ma place adapter r) ⌝ }
+{
+    if !is_quiet(entries, found) {
+        return [0u8; 2048];
+    }
+    let mut idle = [1u8; 2048];
+    unmark_all(entries, place, adapter, &mut idle);
+    idle
+}
+
+// How many notes of a search tell of all rings; 64 if they don't.
+fn known_notes(found: Received, noted: usize) -> usize
+    ensures { λ r. ⌜ Known found noted r ⌝ }
+{
+    if 63 < noted {
+        return 64;
+    }
+    match found {
+        Received::Nothing => noted,
+        Received::Lost => noted,
+        Received::Refused(_) => noted,
+        Received::Path {
+            place: _,
+            adapter: _,
+            hop: _,
+            hops: _,
+            out_place: _,
+            out_adapter: _,
+        } => 64,
+    }
+}
+
+// The first note of a path that leaves by a ring.
+fn find_note(notes: &[u64], ring: u16) -> usize
+    ensures { λ r. ⌜ NoteFound (now (notes .entry)) ring r ⌝ }
+{
+    let wanted = ring as u64;
+    let mut i: usize = 0;
+    while i < notes.len() {
+        if notes[i] % 65536 == wanted {
+            return i;
+        }
+        i += 1;
+    }
+    i
+}
+
+// The path of a note, which leaves by a ring.
+fn noted_path(
+    entries: &[u64],
+    adapters: &[u64],
+    routes: &[u64],
+    marks: &[u64],
+    note: u64,
+) -> Received
+    ensures { λ r. ⌜ ((ring : ℕ) → NotePath (now (entries .entry)) (now (adapters .entry)) (now (routes .entry)) (now (marks .entry)) ring note r) ⌝ }
+{
+    let place = (note / 1099511627776 % 65536) as usize;
+    let adapter = (note / 4294967296 % 256) as u8;
+    let hop = (note / 65536 % 65536) as u16;
+    match walk::tally(entries, adapters, routes, marks, place, adapter, hop) {
+        Walked::Refused(refusal) => Received::Refused(refusal),
+        Walked::Absent => Received::Nothing,
+        Walked::Path {
+            hops,
+            place: out_place,
+            adapter: out_adapter,
+            hop: _,
+        } => Received::Path {
+            place,
+            adapter,
+            hop,
+            hops,
+            out_place,
+            out_adapter,
+        },
+    }
+}
+
+// The receive path of a ring: by notes, where there are fewer than 64, with `last` for the rings that have none; else by a search.
+fn received_by(
+    entries: &[u64],
+    adapters: &[u64],
+    routes: &[u64],
+    marks: &[u64],
+    ring: u16,
+    notes: &[u64],
+    last: Received,
+) -> Received
+    requires { ⌜ Told (now entries) (now adapters) (now routes) (now marks) (now notes) last ⌝ }
+    ensures { λ r. ⌜ Receives (now (entries .entry)) (now (adapters .entry)) (now (routes .entry)) (now (marks .entry)) ring r ⌝ }
+{
+    if 64 <= notes.len() {
+        let searched = receive::receive(entries, adapters, routes, marks, ring);
+        let found = searched.found;
+        return found;
+    }
+    let i = find_note(notes, ring);
+    if notes.len() <= i {
+        return last;
+    }
+    noted_path(entries, adapters, routes, marks, notes[i])
+}
+
+// A ring's tunnel.
+fn plan_ring(
     entries: &[u64],
     adapters: &[u64],
     routes: &[u64],
     marks: &[u64],
     place: usize,
     adapter: u8,
-) -> [u8; 2048]
-    ensures { λ r. ⌜ Idle (now (entries .entry)) (now (adapters .entry)) (now (routes .entry)) (now (marks .entry)) place adapter r ⌝ }
+    ring: u16,
+    notes: &[u64],
+    last: Received,
+) -> Planned
+    requires { ⌜ Told (now entries) (now adapters) (now routes) (now marks) (now notes) last ⌝ }
+    ensures { λ r. ⌜ Plans (now (entries .entry)) (now (adapters .entry)) (now (routes .entry)) (now (marks .entry)) place (λ x. oneDma x place adapter ring) r ⌝ }
 {
-    if !is_quiet(entries, adapters, routes, marks) {
-        return [0u8; 2048];
-    }
-    let mut idle = [1u8; 2048];
-    unmark_all(entries, place, adapter, &mut idle);
-    idle
+    let r = received_by(entries, adapters, routes, marks, ring, notes, last);
+    tunnel::one_dma(entries, adapters, routes, marks, place, adapter, ring, r)
 }
 
 // Marks a ring that needs no words.
@@ -262,10 +370,12 @@ fn tally_rings(
     place: usize,
     adapter: u8,
     end: u32,
+    notes: &[u64],
+    last: Received,
     idle: &mut [u8; 2048],
     draft: &mut [u32],
 ) -> Tally
-    requires { ⌜ (1 ≤ end) × (end ≤ 65536) × Idle (now entries) (now adapters) (now routes) (now marks) place adapter (now idle) ⌝ }
+    requires { ⌜ (1 ≤ end) × (end ≤ 65536) × Idle (now entries) (now adapters) (now routes) (now marks) place adapter (now idle) × Told (now entries) (now adapters) (now routes) (now marks) (now notes) last ⌝ }
     ensures { λ r. ⌜ Tallies (now (entries .entry)) (now (adapters .entry)) (now (routes .entry)) (now (marks .entry)) place adapter (end - 1) r × Idle (now (entries .entry)) (now (adapters .entry)) (now (routes .entry)) (now (marks .entry)) place adapter (now (idle .exit)) ⌝ }
     ensures { λ r. ⌜ Drafted (now (entries .entry)) (now (adapters .entry)) (now (routes .entry)) (now (marks .entry)) place adapter (end - 1) (now (draft .exit)) ⌝ }
 {
@@ -277,7 +387,17 @@ fn tally_rings(
             ring += 1;
         } else {
             let r = ring as u16;
-            let plan = tunnel::one_dma(entries, adapters, routes, marks, place, adapter, r);
+            let plan = plan_ring(
+                entries,
+                adapters,
+                routes,
+                marks,
+                place,
+                adapter,
+                r,
+                notes,
+                last,
+            );
             match tally_plan(plan) {
                 Tally::Refused(refusal) => {
                     return Tally::Refused(refusal);
@@ -313,18 +433,30 @@ fn put_ring(
     place: usize,
     adapter: u8,
     ring: u32,
+    notes: &[u64],
+    last: Received,
     idle: &[u8; 2048],
     output: &mut [u32],
     at: usize,
 ) -> usize
-    requires { ⌜ (ring < 65536) × (at ≤ length (now output)) × Idle (now entries) (now adapters) (now routes) (now marks) place adapter (now idle) ⌝ }
+    requires { ⌜ (ring < 65536) × (at ≤ length (now output)) × Idle (now entries) (now adapters) (now routes) (now marks) place adapter (now idle) × Told (now entries) (now adapters) (now routes) (now marks) (now notes) last ⌝ }
     ensures { λ r. ⌜ RingPut (now (entries .entry)) (now (adapters .entry)) (now (routes .entry)) (now (marks .entry)) place adapter ring at (now (output .entry)) r (now (output .exit)) ⌝ }
 {
     if is_idle(idle, ring) {
         return at;
     }
     let r = ring as u16;
-    let plan = tunnel::one_dma(entries, adapters, routes, marks, place, adapter, r);
+    let plan = plan_ring(
+        entries,
+        adapters,
+        routes,
+        marks,
+        place,
+        adapter,
+        r,
+        notes,
+        last,
+    );
     put_plan(entries, adapters, routes, marks, plan, output, at)
 }
 
@@ -337,10 +469,12 @@ fn put_rings(
     place: usize,
     adapter: u8,
     end: u32,
+    notes: &[u64],
+    last: Received,
     idle: &[u8; 2048],
     output: &mut [u32],
 )
-    requires { ⌜ (1 ≤ end) × (end ≤ 65536) × Idle (now entries) (now adapters) (now routes) (now marks) place adapter (now idle) ⌝ }
+    requires { ⌜ (1 ≤ end) × (end ≤ 65536) × Idle (now entries) (now adapters) (now routes) (now marks) place adapter (now idle) × Told (now entries) (now adapters) (now routes) (now marks) (now notes) last ⌝ }
     ensures { λ _. ⌜ RingsPut (now (entries .entry)) (now (adapters .entry)) (now (routes .entry)) (now (marks .entry)) place adapter (end - 1) (now (output .entry)) (now (output .exit)) ⌝ }
 {
     let mut at: usize = 0;
@@ -357,6 +491,8 @@ fn put_rings(
             place,
             adapter,
             ring,
+            notes,
+            last,
             idle,
             output,
             at,
@@ -386,11 +522,13 @@ fn put_tallied(
     place: usize,
     adapter: u8,
     end: u32,
+    notes: &[u64],
+    last: Received,
     idle: &[u8; 2048],
     draft: &[u32],
     output: &mut [u32],
 )
-    requires { ⌜ (1 ≤ end) × (end ≤ 65536) × Idle (now entries) (now adapters) (now routes) (now marks) place adapter (now idle) × Drafted (now entries) (now adapters) (now routes) (now marks) place adapter (end - 1) (now draft) ⌝ }
+    requires { ⌜ (1 ≤ end) × (end ≤ 65536) × Idle (now entries) (now adapters) (now routes) (now marks) place adapter (now idle) × Drafted (now entries) (now adapters) (now routes) (now marks) place adapter (end - 1) (now draft) × Told (now entries) (now adapters) (now routes) (now marks) (now notes) last ⌝ }
     ensures { λ _. ⌜ RingsPut (now (entries .entry)) (now (adapters .entry)) (now (routes .entry)) (now (marks .entry)) place adapter (end - 1) (now (output .entry)) (now (output .exit)) ⌝ }
 {
     let need = output.len();
@@ -406,6 +544,8 @@ fn put_tallied(
         place,
         adapter,
         end,
+        notes,
+        last,
         idle,
         output,
     );
@@ -473,7 +613,11 @@ fn put_dma(
         }))),
         MaxHop::Hop(largest) => {
             let end = rings_end(largest);
-            let mut idle = at_rest(entries, adapters, routes, marks, place, adapter);
+            let searched = receive::receive(entries, adapters, routes, marks, 65535);
+            let found = searched.found;
+            let notes = searched.notes;
+            let count = known_notes(found, searched.noted);
+            let mut idle = at_rest(entries, place, adapter, found);
             let mut draft = [0u32; 1024]; // room for the words of some 140 rings
             match tally_rings(
                 entries,
@@ -483,6 +627,8 @@ fn put_dma(
                 place,
                 adapter,
                 end,
+                &notes[..count],
+                found,
                 &mut idle,
                 &mut draft,
             ) {
@@ -499,6 +645,8 @@ fn put_dma(
                         place,
                         adapter,
                         end,
+                        &notes[..count],
+                        found,
                         &idle,
                         &draft,
                         &mut output[..need],

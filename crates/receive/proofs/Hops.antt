@@ -24,7 +24,7 @@ use Rattle.walk.proofs.Laws.{walk-ends, hopped, path-rule}
 use Rattle.path.proofs.Writing.{refused-as}
 use Rattle.receive.specs.Receive.{at, Receive, Receive.received, Receive.nothing, usesRing, orRest, amongHops, orNext}
 use Rattle.receive.specs.Tables.{Said, Said.path, saidOf}
-use Rattle.receive.specs.Work.{upTo}
+use Rattle.receive.specs.Work.{said, upTo}
 
 -- ---- HopIDs without an entry
 
@@ -91,9 +91,6 @@ first-stand x s h hs e =
     let w = hopped x s (h ∷ hs) e in
     let r = path-rule x s (w .count) (w .one) (w .ends) in
     ap (λ (l : List EntryRow). standOf (getD l 0 h)) (sym (w .hops)) ∙ sym (found-stand s _ _ (r .stands h 0 (w .one)))
-
-abbrev pub said : Outcome Receive → Outcome Said
-said o = bind o (λ v. value (saidOf v))
 
 module _ (ring : ℕ) (rest : Outcome Receive) where
   -- refused

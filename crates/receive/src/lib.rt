@@ -1,12 +1,12 @@
 // The receive path of a ring (module 7, `discover_one_dma`), sought on the tables that a survey is loaded to.
-ghost use Prim.Native.Nat.{ℕ};
+ghost use Prim.Native.Nat.{ℕ, _+_, _*_, _<_};
 ghost use mathlib.Core.Path.{_≡_};
 ghost use Rattle.adapter.specs.Adapter.{factsRow};
 ghost use Rattle.tables.specs.Rows.{deviceIn};
 ghost use Rattle.tables.specs.Found.{deviceRow};
 ghost use Rattle.receive.specs.Receive.{hopsOf, underRouter, taken};
-ghost use Rattle.receive.specs.Tables.{Receives};
-ghost use Rattle.receive.specs.Work.{laneOutcome, LaneIs, laneAt, Looked};
+ghost use Rattle.receive.specs.Tables.{noteRing, Searches};
+ghost use Rattle.receive.specs.Work.{laneOutcome, LaneIs, laneAt, Looked, PutNote, Sights};
 use adapter::Facts;
 use adapter::HopFound;
 use adapter::MaxHop;
@@ -48,9 +48,23 @@ pub enum LaneFound {
     Refused(Refusal),
 }
 
-// The HopID to look at next; none is left; a path that leaves by the ring; or what refuses it.
+// What a search comes to, and the paths that it passes, as far as there is room: the place, adapter and HopID from which each starts, and the HopID that it leaves by, a word.
+pub struct Searched {
+    pub found: Received,
+    pub noted: usize,
+    pub notes: [u64; 64],
+}
+
+// The same without the notes themselves.
+pub struct Sought {
+    pub found: Received,
+    pub noted: usize,
+}
+
+// The HopID to look at next; a path from a HopID that leaves by another than the ring; none is left; a path that leaves by the ring; or what refuses it.
 pub enum Step {
     On(u32),
+    Past { hop: u16, last: u16 },
     Over,
     Fits(Received),
     Refused(Refusal),
@@ -156,7 +170,7 @@ fn look_at(
             hop: last,
         } => {
             if last != ring {
-                return Step::On(at + 1);
+                return Step::Past { hop: h, last };
             }
             Step::Fits(Received::Path {
                 place,
@@ -170,22 +184,49 @@ fn look_at(
     }
 }
 
-// The first path that leaves by the ring, over the xdomains and the HopIDs of the adapters at which their paths come in.
-pub fn receive(
+// A path's note.
+fn note_word(place: usize, adapter: u8, hop: u16, last: u16) -> u64
+    ensures { λ r. ⌜ (noteRing r ≡ last) × (place < 65536 → r ≡ place * 1099511627776 + adapter * 4294967296 + hop * 65536 + last) ⌝ }
+{
+    let start = (place % 65536) as u64 * 16777216 + adapter as u64 * 65536 + hop as u64;
+    start * 65536 + last as u64
+}
+
+// Puts a note, if there is room; how many there are then.
+fn put_note(notes: &mut [u64], noted: usize, word: u64) -> usize
+    ensures { λ r. ⌜ PutNote word noted (now (notes .entry)) r (now (notes .exit)) ⌝ }
+{
+    if notes.len() <= noted {
+        return noted;
+    }
+    notes[noted] = word;
+    noted + 1
+}
+
+// The first path that leaves by the ring, over the xdomains and the HopIDs of the adapters at which their paths come in. Those before it are noted.
+fn seek_path(
     entries: &[u64],
     adapters: &[u64],
     routes: &[u64],
     marks: &[u64],
     ring: u16,
-) -> Received
-    ensures { λ r. ⌜ Receives (now (entries .entry)) (now (adapters .entry)) (now (routes .entry)) (now (marks .entry)) ring r ⌝ }
+    notes: &mut [u64],
+) -> Sought
+    ensures { λ r. ⌜ Sights (now (entries .entry)) (now (adapters .entry)) (now (routes .entry)) (now (marks .entry)) ring r (now (notes .exit)) ⌝ }
 {
+    let mut noted: usize = 0;
     let mut found = Received::Nothing;
     let mut i: usize = 0;
     'rx_path: while i < routes.len() {
         match lane_of(adapters, routes, marks, i) {
-            LaneFound::Refused(refusal) => return Received::Refused(refusal),
-            LaneFound::Dropped => return Received::Lost,
+            LaneFound::Refused(refusal) => {
+                let found = Received::Refused(refusal);
+                return Sought { found, noted };
+            }
+            LaneFound::Dropped => {
+                let found = Received::Lost;
+                return Sought { found, noted };
+            }
             LaneFound::Passed => i += 1,
             LaneFound::At {
                 place,
@@ -207,8 +248,16 @@ pub fn receive(
                         ring,
                     ) {
                         Step::On(next) => hop = next,
+                        Step::Past { hop: h, last } => {
+                            let word = note_word(place, adapter, h, last);
+                            noted = put_note(notes, noted, word);
+                            hop = h as u32 + 1;
+                        }
                         Step::Over => break,
-                        Step::Refused(refusal) => return Received::Refused(refusal),
+                        Step::Refused(refusal) => {
+                            let found = Received::Refused(refusal);
+                            return Sought { found, noted };
+                        }
                         Step::Fits(path) => {
                             found = path;
                             break 'rx_path;
@@ -219,5 +268,25 @@ pub fn receive(
             }
         }
     }
-    found
+    Sought { found, noted }
+}
+
+// The receive path of a ring, and what is noted as it is sought.
+pub fn receive(
+    entries: &[u64],
+    adapters: &[u64],
+    routes: &[u64],
+    marks: &[u64],
+    ring: u16,
+) -> Searched
+    ensures { λ r. ⌜ Searches (now (entries .entry)) (now (adapters .entry)) (now (routes .entry)) (now (marks .entry)) ring r ⌝ }
+{
+    let mut notes = [0u64; 64];
+    let sought = seek_path(entries, adapters, routes, marks, ring, &mut notes);
+    let found = sought.found;
+    Searched {
+        found,
+        noted: sought.noted,
+        notes,
+    }
 }

@@ -1,9 +1,11 @@
 // Tunnels of an adapter (module 7, `discover_usb3`, `discover_dp`, `discover_pcie`, `discover_one_dma`), as plans, on the tables that a survey is loaded to.
-ghost use Prim.Native.Nat.{_+_, _*_, _≤_, _<_};
+ghost use Prim.Native.Nat.{ℕ, _+_, _*_, _≤_, _<_};
 ghost use mathlib.Core.Path.{_≡_};
 ghost use mathlib.Core.Bool.{_&&_};
+ghost use mathlib.Core.List.{List};
 ghost use lib.Dec.{eqb};
 ghost use Rattle.receive.specs.Receive.{at};
+ghost use Rattle.receive.specs.Tables.{Receives};
 ghost use Rattle.tunnel.specs.Tunnels.{downAndUp, displayPort, oneDma};
 ghost use Rattle.tunnel.specs.Plans.{Plans};
 ghost use Rattle.tunnel.specs.Work.{Draws, finished, auxiliary, alonePlan, withPlan, ringBy, startBy, onePath};
@@ -242,17 +244,11 @@ fn one_path(words: usize, place: usize, adapter: u8, hop: u16, name: u8) -> Plan
     }
 }
 
-// A ring's tunnel without a DMA TX path.
-fn receive_alone(
-    entries: &[u64],
-    adapters: &[u64],
-    routes: &[u64],
-    marks: &[u64],
-    ring: u16,
-) -> Planned
-    ensures { λ r. ⌜ Draws (now (entries .entry)) (now (adapters .entry)) (now (routes .entry)) (now (marks .entry)) 0 (λ x. ringBy x ring alonePlan) r ⌝ }
+// A ring's tunnel without a DMA TX path, by what the search for its receive path came to.
+fn receive_alone(received: Received) -> Planned
+    ensures { λ r. ⌜ ((en ad ro ma : List ℕ) (ring : ℕ) → Receives en ad ro ma ring received → Draws en ad ro ma 0 (λ x. ringBy x ring alonePlan) r) ⌝ }
 {
-    match receive::receive(entries, adapters, routes, marks, ring) {
+    match received {
         Received::Refused(refusal) => Planned::Refused(refusal),
         Received::Lost => Planned::Absent,
         Received::Nothing => Planned::Absent,
@@ -268,20 +264,11 @@ fn receive_alone(
 }
 
 // A ring's tunnel whose head and DMA TX path have so many words.
-fn receive_with(
-    entries: &[u64],
-    adapters: &[u64],
-    routes: &[u64],
-    marks: &[u64],
-    place: usize,
-    adapter: u8,
-    ring: u16,
-    words: usize,
-) -> Planned
+fn receive_with(place: usize, adapter: u8, ring: u16, words: usize, received: Received) -> Planned
     requires { ⌜ words ≤ 131072 ⌝ }
-    ensures { λ r. ⌜ Draws (now (entries .entry)) (now (adapters .entry)) (now (routes .entry)) (now (marks .entry)) 0 (λ x. ringBy x ring (withPlan (at place adapter ring) words)) r ⌝ }
+    ensures { λ r. ⌜ ((en ad ro ma : List ℕ) → Receives en ad ro ma ring received → Draws en ad ro ma 0 (λ x. ringBy x ring (withPlan (at place adapter ring) words)) r) ⌝ }
 {
-    match receive::receive(entries, adapters, routes, marks, ring) {
+    match received {
         Received::Refused(refusal) => Planned::Refused(refusal),
         Received::Lost => Planned::Absent, // and its DMA TX path with it
         Received::Nothing => one_path(words, place, adapter, ring, DMA_TX),
@@ -307,7 +294,7 @@ fn receive_with(
     }
 }
 
-// A ring's tunnel: DMA TX from the adapter, and the receive path of the ring.
+// A ring's tunnel: DMA TX from the adapter, and the receive path of the ring, which was sought before. Refused first by the former.
 pub fn one_dma(
     entries: &[u64],
     adapters: &[u64],
@@ -316,26 +303,18 @@ pub fn one_dma(
     place: usize,
     adapter: u8,
     ring: u16,
+    received: Received,
 ) -> Planned
-    ensures { λ r. ⌜ Plans (now (entries .entry)) (now (adapters .entry)) (now (routes .entry)) (now (marks .entry)) place (λ x. oneDma x place adapter ring) r ⌝ }
+    ensures { λ r. ⌜ (Receives (now (entries .entry)) (now (adapters .entry)) (now (routes .entry)) (now (marks .entry)) ring received → Plans (now (entries .entry)) (now (adapters .entry)) (now (routes .entry)) (now (marks .entry)) place (λ x. oneDma x place adapter ring) r) ⌝ }
 {
     match walk::tally(entries, adapters, routes, marks, place, adapter, ring) {
         Walked::Refused(refusal) => Planned::Refused(refusal),
-        Walked::Absent => receive_alone(entries, adapters, routes, marks, ring),
+        Walked::Absent => receive_alone(received),
         Walked::Path {
             hops,
             place: _,
             adapter: _,
             hop: _,
-        } => receive_with(
-            entries,
-            adapters,
-            routes,
-            marks,
-            place,
-            adapter,
-            ring,
-            1 + path_words(hops),
-        ),
+        } => receive_with(place, adapter, ring, 1 + path_words(hops), received),
     }
 }

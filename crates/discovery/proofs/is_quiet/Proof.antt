@@ -11,10 +11,7 @@ leaves-by-requires : tie.Need-leaves-by-requires
 leaves-by-requires c κs = search needs
 
 returns : tie.Need-returns
-returns c = λ e. absurd (false≢true e)
-
-receive-requires : tie.Need-receive-requires
-receive-requires c κs = search needs
+returns c = λ ad ro ma f e. absurd (false≢true e)
 
 enum-told : tie.Need-enum-told
 enum-told c = search needs
@@ -30,17 +27,17 @@ enum-told-4 c = search needs
 
 returns-2 : tie.Need-returns-2
 unfolding receivedOutcome
-returns-2 c = λ e. let m = c .before .before in quiet _ _ _ _ 65535 _ none (sym (m .before .before .leaves-by .ensures) ∙ m .before .if1 .left) (m .receive .ensures) (ap (receivedOutcome 65535) (c .enum-told .given .1))
+returns-2 c = λ ad ro ma f e. let i = c .before .before in quiet _ ad ro ma 65535 _ none (sym (i .before .leaves-by .ensures) ∙ i .if1 .left) f (ap (receivedOutcome 65535) (c .enum-told .given .1))
 
 returns-3 : tie.Need-returns-3
 unfolding receivedOutcome
-returns-3 c = λ e. let m = c .before .before in quiet _ _ _ _ 65535 _ dropped (sym (m .before .before .leaves-by .ensures) ∙ m .before .if1 .left) (m .receive .ensures) (ap (receivedOutcome 65535) (c .enum-told2 .given .1))
+returns-3 c = λ ad ro ma f e. let i = c .before .before in quiet _ ad ro ma 65535 _ dropped (sym (i .before .leaves-by .ensures) ∙ i .if1 .left) f (ap (receivedOutcome 65535) (c .enum-told2 .given .1))
 
 returns-4 : tie.Need-returns-4
-returns-4 c = λ e. absurd (false≢true e)
+returns-4 c = λ ad ro ma f e. absurd (false≢true e)
 
 returns-5 : tie.Need-returns-5
-returns-5 c = λ e. absurd (false≢true e)
+returns-5 c = λ ad ro ma f e. absurd (false≢true e)
 
 pub is-quiet-spec : {M : Type 1} → statement M
 is-quiet-spec =
@@ -48,7 +45,6 @@ is-quiet-spec =
     (tie.spec
     leaves-by-requires
     returns
-    receive-requires
     enum-told
     enum-told-2
     enum-told-3

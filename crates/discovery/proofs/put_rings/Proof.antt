@@ -7,13 +7,13 @@ use Rattle.discovery.proofs.put_rings.Statement.{statement}
 use Rattle.discovery.proofs.put_rings.Tie as tie
 
 abbrev Inv-loop : tie.InvT-loop
-Inv-loop entries adapters routes marks place adapter end idle output₀ at₀ ring₀ output at ring = Putting entries adapters routes marks place adapter end output₀ at ring output
+Inv-loop entries adapters routes marks place adapter end notes last idle output₀ at₀ ring₀ output at ring = Putting entries adapters routes marks place adapter end output₀ at ring output
 
 abbrev μ-loop : tie.MeasureT-loop
-μ-loop entries adapters routes marks place adapter end idle output₀ at₀ ring₀ output at ring = end - ring
+μ-loop entries adapters routes marks place adapter end notes last idle output₀ at₀ ring₀ output at ring = end - ring
 
 loop-holds : tie.Need-loop-holds Inv-loop μ-loop
-loop-holds c = putting-start _ _ _ _ _ _ _ _ (c .before .before .before .before .before .pre .0)
+loop-holds c = putting-start _ _ _ _ _ _ _ _ (c .before .before .before .before .before .before .pre .0)
 
 same-length : tie.Need-same-length Inv-loop μ-loop
 same-length c = c .before .before .loop .inv .long
@@ -22,10 +22,10 @@ returns : tie.Need-returns Inv-loop μ-loop
 returns c = putting-full _ _ _ _ _ _ _ _ _ _ _ (c .before .before .loop .inv) (c .if1 .taken)
 
 put-ring-requires : tie.Need-put-ring-requires Inv-loop μ-loop
-put-ring-requires c κs = let s = c .before .before .before .before .before .before .before .before .before in (omega (arith, c .before .before .loop-test .taken, s .pre .1), c .before .before .before .loop .inv .within, s .pre .2)
+put-ring-requires c κs = let s = c .before .before .before .before .before .before .before .before .before .before in (omega (arith, c .before .before .loop-test .taken, s .pre .1), c .before .before .before .loop .inv .within, s .pre .2, s .pre .3)
 
 add-ring : tie.Need-add-ring Inv-loop μ-loop
-add-ring c = omega (arith, c .before .before .before .before .before .loop-test .taken, c .before .before .before .before .before .before .before .before .before .before .before .before .pre .1)
+add-ring c = omega (arith, c .before .before .before .before .before .loop-test .taken, c .before .before .before .before .before .before .before .before .before .before .before .before .before .pre .1)
 
 loop-less : tie.Need-loop-less Inv-loop μ-loop
 loop-less c = omega (arith, c .before .before .before .before .before .loop-test .taken)

@@ -16,7 +16,7 @@ same-length : tie.Need-same-length
 same-length c = search needs
 
 returns : tie.Need-returns
-returns c = drafted-put _ _ _ _ _ _ _ _ _ (c .before .before .before .before .before .before .before .before .before .before .before .before .pre .3) (c .before .before .before .before .before .if1 .taken) _ (c .before .before .copy .ensures)
+returns c = drafted-put _ _ _ _ _ _ _ _ _ (c .before .before .before .before .before .before .before .before .before .before .before .before .before .pre .3) (c .before .before .before .before .before .if1 .taken) _ (c .before .before .copy .ensures)
 
 put-rings-requires : tie.Need-put-rings-requires
 put-rings-requires c κs = search needs

@@ -9,20 +9,20 @@ use Rattle.discovery.proofs.tally_rings.Statement.{statement}
 use Rattle.discovery.proofs.tally_rings.Tie as tie
 
 abbrev Inv-loop : tie.InvT-loop
-Inv-loop entries adapters routes marks place adapter end idle₀ draft₀ at₀ need₀ ring₀ idle draft at need ring =
+Inv-loop entries adapters routes marks place adapter end notes last idle₀ draft₀ at₀ need₀ ring₀ idle draft at need ring =
     Counted entries adapters routes marks place adapter end need ring × Idle entries adapters routes marks place adapter idle × Putting entries adapters routes marks place adapter end draft₀ at ring draft
 
 abbrev μ-loop : tie.MeasureT-loop
-μ-loop entries adapters routes marks place adapter end idle₀ draft₀ at₀ need₀ ring₀ idle draft at need ring = end - ring
+μ-loop entries adapters routes marks place adapter end notes last idle₀ draft₀ at₀ need₀ ring₀ idle draft at need ring = end - ring
 
 loop-holds : tie.Need-loop-holds Inv-loop μ-loop
-loop-holds c = let s = c .before .before .before .before .before in (counted-start _ _ _ _ _ _ _ (s .pre .0), s .pre .2, putting-start _ _ _ _ _ _ _ _ (s .pre .0))
+loop-holds c = let s = c .before .before .before .before .before .before in (counted-start _ _ _ _ _ _ _ (s .pre .0), s .pre .2, putting-start _ _ _ _ _ _ _ _ (s .pre .0))
 
 is-idle-requires : tie.Need-is-idle-requires Inv-loop μ-loop
 is-idle-requires c κs = search needs
 
 add-ring : tie.Need-add-ring Inv-loop μ-loop
-add-ring c = let t = c .before .before .before in omega (arith, t .loop-test .taken, t .before .before .before .before .before .before .before .pre .1)
+add-ring c = let t = c .before .before .before in omega (arith, t .loop-test .taken, t .before .before .before .before .before .before .before .before .pre .1)
 
 loop-less : tie.Need-loop-less Inv-loop μ-loop
 loop-less c = omega (arith, c .before .before .before .loop-test .taken)
@@ -34,10 +34,10 @@ loop-again c = let t = c .before .before .before in
     (counted-past _ _ _ _ _ _ _ _ _ (i .0) (t .loop-test .taken) _ (i .1) e, i .1, putting-on _ _ _ _ _ _ _ _ _ _ _ (i .2) (t .loop-test .taken) _ _ (ring-idle _ _ _ _ _ _ _ (i .1) _ e _ _ (i .2 .within)))
 
 cast-r : tie.Need-cast-r Inv-loop μ-loop
-cast-r c = let t = c .before .before .before in omega (arith, t .loop-test .taken, t .before .before .before .before .before .before .before .pre .1)
+cast-r c = let t = c .before .before .before in omega (arith, t .loop-test .taken, t .before .before .before .before .before .before .before .before .pre .1)
 
-one-dma-requires : tie.Need-one-dma-requires Inv-loop μ-loop
-one-dma-requires c κs = search needs
+plan-ring-requires : tie.Need-plan-ring-requires Inv-loop μ-loop
+plan-ring-requires c κs = c .before .before .before .before .before .before .before .before .before .before .before .pre .3
 
 tally-plan-requires : tie.Need-tally-plan-requires Inv-loop μ-loop
 tally-plan-requires c κs = search needs
@@ -52,7 +52,7 @@ returns : tie.Need-returns Inv-loop μ-loop
 returns c = let m = c .before .before .before in
     let t = m .before .before .before .before .before in
     let i = t .before .loop .inv in
-    let u = counted-refused _ _ _ _ _ _ _ _ _ (i .0) (t .loop-test .taken) _ (m .before .one-dma .ensures) _ (sym (m .tally-plan .ensures) ∙ c .before .refusal .given .1) in
+    let u = counted-refused _ _ _ _ _ _ _ _ _ (i .0) (t .loop-test .taken) _ (m .before .plan-ring .ensures) _ (sym (m .tally-plan .ensures) ∙ c .before .refusal .given .1) in
     ((u, i .1), drafted-refused _ _ _ _ _ _ _ _ u _)
 
 enum-known-words : tie.Need-enum-known-words Inv-loop μ-loop
@@ -61,16 +61,16 @@ enum-known-words c = search needs
 add-need : tie.Need-add-need Inv-loop μ-loop
 add-need c = let m = c .before .before .before in
     let t = m .before .before .before .before .before in
-    omega (arith, t .before .loop .inv .0 .few, t .before .loop .inv .0 .to, t .before .before .before .before .before .before .before .pre .1, tally-few _ _ (sym (m .tally-plan .ensures) ∙ c .before .words .given .1) (m .before .one-dma .ensures .few))
+    omega (arith, t .before .loop .inv .0 .few, t .before .loop .inv .0 .to, t .before .before .before .before .before .before .before .before .pre .1, tally-few _ _ (sym (m .tally-plan .ensures) ∙ c .before .words .given .1) (m .before .plan-ring .ensures .few))
 
 mark-requires : tie.Need-mark-requires Inv-loop μ-loop
 mark-requires c κs = search needs
 
 put-plan-requires : tie.Need-put-plan-requires Inv-loop μ-loop
-put-plan-requires c κs = let m = c .before .before .before .before .before .before in (m .before .before .before .before .before .before .loop .inv .2 .within, m .before .one-dma .ensures .three)
+put-plan-requires c κs = let m = c .before .before .before .before .before .before in (m .before .before .before .before .before .before .loop .inv .2 .within, m .before .plan-ring .ensures .three)
 
 add-ring-2 : tie.Need-add-ring-2 Inv-loop μ-loop
-add-ring-2 c = let t = c .before .before .before .before .before .before .before .before .before .before .before .before .before .before in omega (arith, t .loop-test .taken, t .before .before .before .before .before .before .before .pre .1)
+add-ring-2 c = let t = c .before .before .before .before .before .before .before .before .before .before .before .before .before .before in omega (arith, t .loop-test .taken, t .before .before .before .before .before .before .before .before .pre .1)
 
 loop-less-2 : tie.Need-loop-less-2 Inv-loop μ-loop
 loop-less-2 c = omega (arith, c .before .before .before .before .before .before .before .before .before .before .before .before .before .before .loop-test .taken)
@@ -80,9 +80,9 @@ loop-again-2 c = let m = c .before .before .before .before .before .before .befo
     let t = m .before .before .before .before .before in
     let i = t .before .loop .inv in
     let w = sym (m .tally-plan .ensures) ∙ c .before .before .before .before .before .before .before .words .given .1 in (
-      counted-on _ _ _ _ _ _ _ _ _ (i .0) (t .loop-test .taken) _ (m .before .one-dma .ensures) _ w,
-      idle-marked _ _ _ _ _ _ _ _ (i .1) _ _ (m .before .one-dma .ensures) _ w (c .before .before .before .before .mark .ensures),
-      putting-on _ _ _ _ _ _ _ _ _ _ _ (i .2) (t .loop-test .taken) _ _ (ring-put _ _ _ _ _ _ _ _ (m .before .one-dma .ensures) _ _ _ _ (c .before .before .put-plan .ensures)),
+      counted-on _ _ _ _ _ _ _ _ _ (i .0) (t .loop-test .taken) _ (m .before .plan-ring .ensures) _ w,
+      idle-marked _ _ _ _ _ _ _ _ (i .1) _ _ (m .before .plan-ring .ensures) _ w (c .before .before .before .before .mark .ensures),
+      putting-on _ _ _ _ _ _ _ _ _ _ _ (i .2) (t .loop-test .taken) _ _ (ring-put _ _ _ _ _ _ _ _ (m .before .plan-ring .ensures) _ _ _ _ (c .before .before .put-plan .ensures)),
     )
 
 same-length-2 : tie.Need-same-length-2 Inv-loop μ-loop
@@ -103,7 +103,7 @@ tally-rings-spec =
     loop-less
     loop-again
     cast-r
-    one-dma-requires
+    plan-ring-requires
     tally-plan-requires
     enum-known-refusal
     same-length

@@ -1,4 +1,5 @@
--- `receive::look_at` meets its contract. Assumes nothing.
+-- `receive::look_at` meets its contract.
+use native.Mathlib.Omega.{arith}
 use Rattle.receive.proofs.Looking.{looked-large, looked-over, looked-past, looked-absent, looked-refused, looked-other, looked-fits}
 use borrow.Author.Needs.{needs}
 use Rattle.receive.proofs.look_at.Statement.{statement}
@@ -43,11 +44,8 @@ add-t22 c = search needs
 enum-known-hops : tie.Need-enum-known-hops
 enum-known-hops c = search needs
 
-add-t24 : tie.Need-add-t24
-add-t24 c = search needs
-
 returns-4 : tie.Need-returns-4
-returns-4 c = looked-other _ _ _ _ _ _ _ _ _ (c .before .before .before .before .before .before .before .before .before .next-hop .ensures) (c .before .before .before .before .before .before .before .h .given .1) (c .before .before .before .before .before .if2 .left) (c .before .before .before .before .tally .ensures) _ _ _ _ (c .before .before .hops .given .1) (c .if3 .taken)
+returns-4 c = looked-other _ _ _ _ _ _ _ _ _ (c .before .before .before .before .before .before .before .before .before .next-hop .ensures) (c .before .before .before .before .before .before .before .h .given .1) (c .before .before .before .before .before .if2 .left) (c .before .before .before .before .tally .ensures) _ _ _ _ (c .before .before .hops .given .1) (c .if3 .taken) (omega arith)
 
 returns-5 : tie.Need-returns-5
 returns-5 c = looked-refused _ _ _ _ _ _ _ _ _ (c .before .before .before .before .before .before .before .before .next-hop .ensures) (c .before .before .before .before .before .before .h .given .1) (c .before .before .before .before .if2 .left) (c .before .before .before .tally .ensures) _ (c .before .refusal .given .1)
@@ -75,7 +73,6 @@ look-at-spec =
     enum-told-2
     add-t22
     enum-known-hops
-    add-t24
     returns-4
     returns-5
     returns-6

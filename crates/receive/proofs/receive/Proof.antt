@@ -1,130 +1,17 @@
--- `receive::receive` meets its contract. What is left to search gives the whole: of the outer loop the devices from `i` on, of the inner one the HopIDs from `hop` on as well. The measures: the devices left, and the HopIDs below 65,536 left. Assumes nothing.
-use Prim.Native.Nat.{_-_}
-use mathlib.Core.Logic.{⊎-elim}
+-- `receive::receive` meets its contract.
 use native.Mathlib.Omega.{arith}
-use lib.ListN.{length}
 use borrow.Author.Needs.{needs}
-use Rattle.receive.proofs.Search.{Seeking, Among, seek-start, seek-end, seek-refused, seek-lost, seek-passed, seek-at, among-end, among-over, among-on, among-fits, among-refused}
 use Rattle.receive.proofs.receive.Statement.{statement}
 use Rattle.receive.proofs.receive.Tie as tie
 
-abbrev Inv-loop : tie.InvT-loop
-Inv-loop entries adapters routes marks ring found₀ i place adapter least most hop₀ found hop = Among entries adapters routes marks ring i place adapter hop most found
+slice-aggregate-seek-path : tie.Need-slice-aggregate-seek-path
+slice-aggregate-seek-path c = search needs
 
-abbrev μ-loop : tie.MeasureT-loop
-μ-loop entries adapters routes marks ring found₀ i place adapter least most hop₀ found hop = 65536 - hop
+seek-path-requires : tie.Need-seek-path-requires
+seek-path-requires c κs = search needs
 
-abbrev Inv-rx-path : tie.InvT-rx-path
-Inv-rx-path entries adapters routes marks ring found₀ i₀ found i = Seeking entries adapters routes marks ring i found
-
-abbrev μ-rx-path : tie.MeasureT-rx-path
-μ-rx-path entries adapters routes marks ring found₀ i₀ found i = length routes - i
-
-rx-path-holds : tie.Need-rx-path-holds Inv-loop μ-loop Inv-rx-path μ-rx-path
-rx-path-holds c = seek-start _ _ _ _ _
-
-lane-of-requires : tie.Need-lane-of-requires Inv-loop μ-loop Inv-rx-path μ-rx-path
-lane-of-requires c κs = search needs
-
-enum-known-refusal : tie.Need-enum-known-refusal Inv-loop μ-loop Inv-rx-path μ-rx-path
-enum-known-refusal c = search needs
-
-returns : tie.Need-returns Inv-loop μ-loop Inv-rx-path μ-rx-path
-returns c = seek-refused _ _ _ _ _ (c .before .before .before .before .before .rx-path .inv) (c .before .before .before .lane-of .ensures) _ (c .before .refusal .given .1)
-
-enum-told : tie.Need-enum-told Inv-loop μ-loop Inv-rx-path μ-rx-path
-enum-told c = search needs
-
-returns-2 : tie.Need-returns-2 Inv-loop μ-loop Inv-rx-path μ-rx-path
-returns-2 c = seek-lost _ _ _ _ _ (c .before .before .before .before .rx-path .inv) (c .before .before .lane-of .ensures) (c .enum-told .given .1)
-
-enum-told-2 : tie.Need-enum-told-2 Inv-loop μ-loop Inv-rx-path μ-rx-path
-enum-told-2 c = search needs
-
-add-i : tie.Need-add-i Inv-loop μ-loop Inv-rx-path μ-rx-path
-add-i c = omega arith
-
-rx-path-less : tie.Need-rx-path-less Inv-loop μ-loop Inv-rx-path μ-rx-path
-rx-path-less c = omega arith
-
-rx-path-again : tie.Need-rx-path-again Inv-loop μ-loop Inv-rx-path μ-rx-path
-rx-path-again c = seek-passed _ _ _ _ _ (c .before .before .before .before .rx-path .inv) (c .before .before .lane-of .ensures) (c .enum-told2 .given .1)
-
-enum-known-place : tie.Need-enum-known-place Inv-loop μ-loop Inv-rx-path μ-rx-path
-enum-known-place c = search needs
-
-loop-holds : tie.Need-loop-holds Inv-loop μ-loop Inv-rx-path μ-rx-path
-loop-holds c = seek-at _ _ _ _ _ (c .before .before .before .before .before .rx-path .inv) (c .before .before .before .lane-of .ensures) _ _ _ _ (c .before .place .given .1)
-
-look-at-requires : tie.Need-look-at-requires Inv-loop μ-loop Inv-rx-path μ-rx-path
-look-at-requires c κs = search needs
-
-enum-known-next : tie.Need-enum-known-next Inv-loop μ-loop Inv-rx-path μ-rx-path
-enum-known-next c = search needs
-
-loop-less : tie.Need-loop-less Inv-loop μ-loop Inv-rx-path μ-rx-path
-loop-less c = omega (arith, c .before .before .before .look-at .ensures .further _ (c .before .next .given .1))
-
-loop-again : tie.Need-loop-again Inv-loop μ-loop Inv-rx-path μ-rx-path
-loop-again c = among-on _ _ _ _ _ (c .before .before .before .before .before .loop .inv) (c .before .before .before .look-at .ensures) _ (c .before .next .given .1)
-
-enum-told-3 : tie.Need-enum-told-3 Inv-loop μ-loop Inv-rx-path μ-rx-path
-enum-told-3 c = search needs
-
-enum-known-refusal-2 : tie.Need-enum-known-refusal-2 Inv-loop μ-loop Inv-rx-path μ-rx-path
-enum-known-refusal-2 c = search needs
-
-returns-3 : tie.Need-returns-3 Inv-loop μ-loop Inv-rx-path μ-rx-path
-returns-3 c = among-refused _ _ _ _ _ (c .before .before .before .before .before .loop .inv) (c .before .before .before .look-at .ensures) _ (c .before .refusal2 .given .1)
-
-enum-known-path : tie.Need-enum-known-path Inv-loop μ-loop Inv-rx-path μ-rx-path
-enum-known-path c = search needs
-
-add-i-2 : tie.Need-add-i-2 Inv-loop μ-loop Inv-rx-path μ-rx-path
-add-i-2 c = omega arith
-
-rx-path-less-2 : tie.Need-rx-path-less-2 Inv-loop μ-loop Inv-rx-path μ-rx-path
-rx-path-less-2 c = omega arith
-
-rx-path-again-2 : tie.Need-rx-path-again-2 Inv-loop μ-loop Inv-rx-path μ-rx-path
-rx-path-again-2 c = ⊎-elim (λ l. among-end _ _ _ _ _ (c .before .loop .inv) (l .left)) (λ w. among-over _ _ _ _ _ (c .before .loop .inv) (w .1 .ensures) (w .3 .given .1)) (c .loop-test .came)
-
-returns-4 : tie.Need-returns-4 Inv-loop μ-loop Inv-rx-path μ-rx-path
-returns-4 c = seek-end _ _ _ _ _ (c .before .rx-path .inv) (c .rx-path-test .left)
-
-returns-5 : tie.Need-returns-5 Inv-loop μ-loop Inv-rx-path μ-rx-path
-returns-5 c = among-fits _ _ _ _ _ (c .before .before .before .before .before .loop .inv) (c .before .before .before .look-at .ensures) _ (c .before .path .given .1)
+returns : tie.Need-returns
+returns c = let s = c .before .seek-path in record { comes = s .ensures .comes; notes = λ p l. s .ensures .tells p (omega (arith, l, s .kept .1 .1 .1 .1 .1 .0)) }
 
 pub receive-spec : {M : Type 1} → statement M
-receive-spec =
-    tie.close
-    (tie.spec
-    Inv-loop
-    μ-loop
-    Inv-rx-path
-    μ-rx-path
-    rx-path-holds
-    lane-of-requires
-    enum-known-refusal
-    returns
-    enum-told
-    returns-2
-    enum-told-2
-    add-i
-    rx-path-less
-    rx-path-again
-    enum-known-place
-    loop-holds
-    look-at-requires
-    enum-known-next
-    loop-less
-    loop-again
-    enum-told-3
-    enum-known-refusal-2
-    returns-3
-    enum-known-path
-    add-i-2
-    rx-path-less-2
-    rx-path-again-2
-    returns-4
-    returns-5)
+receive-spec = tie.close (tie.spec slice-aggregate-seek-path seek-path-requires returns)

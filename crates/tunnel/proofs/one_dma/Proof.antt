@@ -4,50 +4,38 @@ use Rattle.tunnel.proofs.Ring.{dma-refused, dma-alone, dma-with}
 use Rattle.tunnel.proofs.one_dma.Statement.{statement}
 use Rattle.tunnel.proofs.one_dma.Tie as tie
 
--- src/lib.rt:322:11
 tally-requires : tie.Need-tally-requires
 tally-requires c κs = search needs
 
--- src/lib.rt:323:25
 enum-known-refusal : tie.Need-enum-known-refusal
 enum-known-refusal c = search needs
 
--- src/lib.rt:324:27
 enum-told : tie.Need-enum-told
 enum-told c = search needs
 
--- src/lib.rt:324:27
 receive-alone-requires : tie.Need-receive-alone-requires
 receive-alone-requires c κs = search needs
 
--- src/lib.rt:326:13
 enum-known-hops : tie.Need-enum-known-hops
 enum-known-hops c = search needs
 
--- src/lib.rt:338:17
 path-words-requires : tie.Need-path-words-requires
 path-words-requires c κs = search needs
 
--- src/lib.rt:338:13
 add-receive-with : tie.Need-add-receive-with
 add-receive-with c = search needs
 
--- src/lib.rt:330:14
 receive-with-requires : tie.Need-receive-with-requires
 receive-with-requires c κs = search needs
 
--- src/lib.rt:311:1
 returns : tie.Need-returns
-returns c = dma-refused _ _ _ _ _ _ _ _ (c .before .before .before .tally .ensures) _ (c .before .refusal .given .1)
+returns c = λ f. dma-refused _ _ _ _ _ _ _ _ (c .before .before .before .tally .ensures) _ (c .before .refusal .given .1)
 
--- src/lib.rt:311:1
 returns-2 : tie.Need-returns-2
-returns-2 c = dma-alone _ _ _ _ _ _ _ _ (c .before .before .before .tally .ensures) _ (c .before .enum-told .given .1) (c .receive-alone .ensures)
+returns-2 c = λ f. dma-alone _ _ _ _ _ _ _ _ (c .before .before .before .tally .ensures) _ (c .before .enum-told .given .1) (c .receive-alone .ensures _ _ _ _ _ f)
 
--- src/lib.rt:311:1
 returns-3 : tie.Need-returns-3
-returns-3 c = let g = c .before .before .before in
-    dma-with _ _ _ _ _ _ _ _ (g .before .before .tally .ensures) _ _ _ _ _ _ (g .hops .given .1) (c .before .path-words .ensures) (c .receive-with .ensures)
+returns-3 c = λ f. let g = c .before .before .before in dma-with _ _ _ _ _ _ _ _ (g .before .before .tally .ensures) _ _ _ _ _ _ (g .hops .given .1) (c .before .path-words .ensures) (c .receive-with .ensures _ _ _ _ f)
 
 pub one-dma-spec : {M : Type 1} → statement M
 one-dma-spec =
