@@ -143,7 +143,16 @@ def line_cases(chance, count):
         yield Case("parse_line", tried(lambda: rule.parse_line(text)), None if w is None else value(*w) if w else none(), text=text)
 
 
+def many_lines(chance):
+    """Lines for as many records as are sorted by bytes, one fewer or more, with offsets in no order; most in the kernel's columns."""
+    most = chance.one_of([3, 300, 65536])
+    row = chance.one_of(["0x{:04x} {:4} 0x00 0x00 0x{:08x}", "{:x} {} 0 {:x}"])
+    return "".join(row.format(chance.below(most), i, chance.below(2**32)) + "\n" for i in range(chance.one_of([255, 256, 257, 300, 700])))
+
+
 def a_dump(chance):
+    if chance.below(20) == 0:
+        return many_lines(chance).encode()
     what = chance.below(5)
     if what == 0:
         text = "\n".join(answers.real(chance)) + "\n"
@@ -587,6 +596,8 @@ def rare(chance, round_):
         yield OURS, [ways_of(ways.chain(chance, OURS))]
     elif what == 2:
         yield OURS, [ways_of(ways.longest(chance, OURS, [1, 2, 10, 100, 1500]))]
+    elif what == 3:  # as many paths as a search for one ring notes for the others, one fewer and one more
+        yield OURS, [(tunnels.many_paths(chance, OURS, n), ()) for n in (63, 64, 65)]
     elif what == 4:
         yield OURS, [(tunnels.many_rings(chance, OURS, 30, 60), ()), (tunnels.long_list(chance, OURS, 400), ())]
     elif what == 6:

@@ -284,6 +284,17 @@ def many_rings(chance, sets, rings, count):
     return made.words()
 
 
+def many_paths(chance, sets, count):
+    """So many receive paths for rings in no order, and a few TX paths."""
+    made = two_hosts(chance, sets, count + 3, 8 + count)
+    rings = chance.mixed([*range(1, count + 4)])[:count]
+    for i, ring in enumerate(rings):
+        made.run((1, 2), 8 + i, (0, 3), ring)
+    for ring in chance.mixed(rings)[:5]:
+        made.run((0, 3), ring, (1, 2))
+    return made.words()
+
+
 def most_rings(chance, sets, rings):
     """The most rings that a host interface can have, and one more: TX of the first and of the last that has entries, RX of the last."""
     made = two_hosts(chance, sets, rings, 9)
