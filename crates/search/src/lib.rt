@@ -30,15 +30,13 @@ fn seek(table: &[u64], bound: u64) -> usize
     ensures { λ r. ⌜ Boundary (now (table .entry)) bound r ⌝ }
 {
     let mut lo: usize = 0;
-    let mut left = table.len();
-    while 0 < left {
-        let half = left / 2;
-        let mid = lo + half;
+    let mut hi = table.len();
+    while lo < hi {
+        let mid = (lo + hi) / 2;
         if table[mid] < bound {
             lo = mid + 1;
-            left = left - half - 1;
         } else {
-            left = half;
+            hi = mid;
         }
     }
     lo

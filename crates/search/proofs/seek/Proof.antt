@@ -1,7 +1,5 @@
 -- `search::seek` meets its contract.
-use Prim.Native.Nat.{ℕ, _+_, _≤_, _<_, _-_, _/_}
-use mathlib.Core.Path.{_≡_, subst}
-use mathlib.Core.List.{List}
+use Prim.Native.Nat.{_-_, _≤_, _<_}
 use native.Mathlib.Omega.{arith}
 use denote.Ref.{now}
 use lib.ListN.{length, getD}
@@ -10,17 +8,13 @@ use Rattle.search.proofs.seek.Statement.{statement}
 use Rattle.search.proofs.seek.Tie as tie
 
 abbrev Inv-loop : tie.InvT-loop
-Inv-loop table bound lo₀ left₀ lo left = (lo + left ≤ length table) × (0 < lo → getD table (lo - 1) 0 < bound) × (lo + left < length table → bound ≤ getD table (lo + left) 0)
+Inv-loop table bound lo₀ hi₀ lo hi = (lo ≤ hi) × (hi ≤ length table) × (0 < lo → getD table (lo - 1) 0 < bound) × (hi < length table → bound ≤ getD table hi 0)
 
 abbrev μ-loop : tie.MeasureT-loop
-μ-loop table bound lo₀ left₀ lo left = left
-
--- the end stays where it is
-same-end : (t : List ℕ) (bound lo left half : ℕ) → half < left → (lo + left < length t → bound ≤ getD t (lo + left) 0) → lo + half + 1 + (left - half - 1) < length t → bound ≤ getD t (lo + half + 1 + (left - half - 1)) 0
-same-end t bound lo left half l a m = let z : lo + left ≡ lo + half + 1 + (left - half - 1) = omega arith in subst (λ (k : ℕ). bound ≤ getD t k 0) z (a (omega arith))
+μ-loop table bound lo₀ hi₀ lo hi = hi - lo
 
 loop-holds : tie.Need-loop-holds Inv-loop μ-loop
-loop-holds c = (omega arith, λ l. absurd (omega arith), λ l. absurd (omega arith))
+loop-holds c = (omega arith, omega arith, λ l. absurd (omega arith), λ l. absurd (omega arith))
 
 add-mid : tie.Need-add-mid Inv-loop μ-loop
 add-mid c = omega arith
@@ -34,27 +28,21 @@ shared-slice-read-if1 c = omega arith
 add-lo : tie.Need-add-lo Inv-loop μ-loop
 add-lo c = omega arith
 
-sub-left : tie.Need-sub-left Inv-loop μ-loop
-sub-left c = omega arith
-
-sub-left-2 : tie.Need-sub-left-2 Inv-loop μ-loop
-sub-left-2 c = omega arith
-
 loop-less : tie.Need-loop-less Inv-loop μ-loop
 loop-less c = omega arith
 
 loop-again : tie.Need-loop-again Inv-loop μ-loop
 loop-again c = let w = c .before .before .before in
-    (omega arith, below-next (now (w .before .args .table)) _ _ (c .if1 .taken), same-end (now (w .before .args .table)) (w .before .args .bound) (w .loop .lo) (w .loop .left) (w .loop .left / 2) (omega arith) (w .loop .inv .2))
+    (omega arith, w .loop .inv .1, below-next (now (w .before .args .table)) _ _ (c .if1 .taken), w .loop .inv .3)
 
 loop-less-2 : tie.Need-loop-less-2 Inv-loop μ-loop
 loop-less-2 c = omega arith
 
 loop-again-2 : tie.Need-loop-again-2 Inv-loop μ-loop
-loop-again-2 c = (omega arith, c .before .before .before .loop .inv .1, λ l. c .if1 .left)
+loop-again-2 c = let w = c .before .before .before in (omega arith, omega arith, w .loop .inv .2, λ l. c .if1 .left)
 
 returns : tie.Need-returns Inv-loop μ-loop
-returns c = let w = c .before in ends-meet (now (w .before .args .table)) _ _ (w .loop .lo + w .loop .left) (omega arith) (omega arith) (w .loop .inv .0) (w .loop .inv .1) (w .loop .inv .2)
+returns c = let w = c .before in ends-meet (now (w .before .args .table)) _ _ (w .loop .hi) (w .loop .inv .0) (omega arith) (w .loop .inv .1) (w .loop .inv .2) (w .loop .inv .3)
 
 pub seek-spec : {M : Type 1} → statement M
 seek-spec =
@@ -67,8 +55,6 @@ seek-spec =
     mul-if1
     shared-slice-read-if1
     add-lo
-    sub-left
-    sub-left-2
     loop-less
     loop-again
     loop-less-2
