@@ -1,8 +1,7 @@
 // The walk (module 7, `discover_path`) on the tables that a survey is loaded to.
-ghost use mathlib.Core.Path.{_≡_};
 ghost use Rattle.walk.specs.Walking.{Stand};
 ghost use Rattle.walk.specs.Tables.{Tallied};
-ghost use Rattle.walk.specs.Work.{stoppedBy};
+ghost use Rattle.walk.specs.Work.{Onward};
 use fabric::Next;
 use load::Refusal;
 use refusal::Fault;
@@ -20,68 +19,52 @@ pub enum Walked {
     Refused(Refusal),
 }
 
-// A walk that stands where there is no entry: no path at the start, else a path of the hops so far.
-fn stopped(hops: usize, place: usize, adapter: u8, hop: u16) -> Walked
-    ensures { λ r. ⌜ r ≡ stoppedBy hops place adapter hop ⌝ }
-{
-    if hops < 1 {
-        return Walked::Absent;
-    }
-    Walked::Path {
-        hops,
-        place,
-        adapter,
-        hop,
-    }
-}
-
-// How the walk from an adapter and HopID of the device at a place ends. A walk that is still going after as many hops as there are entries never ends.
-pub fn tally(
+// How a walk ends whose first hop leaves the device at a place by an out adapter and HopID. A walk that is still going after as many hops as there are entries never ends.
+fn onward(
     entries: &[u64],
     adapters: &[u64],
     routes: &[u64],
     marks: &[u64],
     place: usize,
-    adapter: u8,
-    hop: u16,
+    out_adapter: u8,
+    out_hop: u16,
 ) -> Walked
-    ensures { λ r. ⌜ Tallied (now (entries .entry)) (now (adapters .entry)) (now (routes .entry)) (now (marks .entry)) (record { place = place; adapter = adapter; hopId = hop }) r ⌝ }
+    ensures { λ r. ⌜ Onward (now (entries .entry)) (now (adapters .entry)) (now (routes .entry)) (now (marks .entry)) place «out_adapter» «out_hop» r ⌝ }
 {
-    let mut left = entries.len();
     let mut hops: usize = 0;
     let mut p = place;
-    let mut a = adapter;
-    let mut h = hop;
-    let mut from = place;
-    let mut out = adapter;
+    let mut out = out_adapter;
+    let mut h = out_hop;
     loop {
-        let EntryAt::Entry {
-            out_adapter,
-            out_hop,
-        } = search::find_entry(entries, p, a, h)
-        else {
-            return stopped(hops, from, out, h);
-        };
-        if left < 1 {
+        if entries.len() <= hops {
             return Walked::Refused(Refusal::Fault(Fault::Endless));
         }
-        left -= 1;
         hops += 1;
-        from = p;
-        out = out_adapter;
-        h = out_hop;
-        match fabric::leads(adapters, routes, marks, p, out_adapter) {
+        match fabric::leads(adapters, routes, marks, p, out) {
             Next::On {
                 place: q,
                 adapter: b,
             } => {
+                let EntryAt::Entry {
+                    out_adapter: o,
+                    out_hop: k,
+                } = search::find_entry(entries, q, b, h)
+                else {
+                    return Walked::Path {
+                        hops,
+                        place: p,
+                        adapter: out,
+                        hop: h,
+                    };
+                };
                 p = q;
-                a = b;
+                out = o;
+                h = k;
             }
             Next::Last => {
                 return Walked::Path {
                     hops,
-                    place: from,
+                    place: p,
                     adapter: out,
                     hop: h,
                 };
@@ -94,4 +77,34 @@ pub fn tally(
             }
         }
     }
+}
+
+// How the walk from an adapter and HopID of the device at a place ends. The first entry is looked for before the loop: most walks that are asked for have none.
+pub fn tally(
+    entries: &[u64],
+    adapters: &[u64],
+    routes: &[u64],
+    marks: &[u64],
+    place: usize,
+    adapter: u8,
+    hop: u16,
+) -> Walked
+    ensures { λ r. ⌜ Tallied (now (entries .entry)) (now (adapters .entry)) (now (routes .entry)) (now (marks .entry)) (record { place = place; adapter = adapter; hopId = hop }) r ⌝ }
+{
+    let EntryAt::Entry {
+        out_adapter,
+        out_hop,
+    } = search::find_entry(entries, place, adapter, hop)
+    else {
+        return Walked::Absent;
+    };
+    onward(
+        entries,
+        adapters,
+        routes,
+        marks,
+        place,
+        out_adapter,
+        out_hop,
+    )
 }
