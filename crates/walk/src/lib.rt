@@ -31,14 +31,16 @@ fn onward(
 ) -> Walked
     ensures { λ r. ⌜ Onward (now (entries .entry)) (now (adapters .entry)) (now (routes .entry)) (now (marks .entry)) place «out_adapter» «out_hop» r ⌝ }
 {
+    let mut left = entries.len();
     let mut hops: usize = 0;
     let mut p = place;
     let mut out = out_adapter;
     let mut h = out_hop;
     loop {
-        if entries.len() <= hops {
+        if left < 1 {
             return Walked::Refused(Refusal::Fault(Fault::Endless));
         }
+        left -= 1;
         hops += 1;
         match fabric::leads(adapters, routes, marks, p, out) {
             Next::On {

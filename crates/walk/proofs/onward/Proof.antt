@@ -1,5 +1,6 @@
 -- `walk::onward` meets its contract.
-use Prim.Native.Nat.{_-_}
+use Prim.Native.Nat.{_+_}
+use mathlib.Core.Path.{_≡_}
 use native.Mathlib.Omega.{arith}
 use lib.ListN.{length}
 use borrow.Author.Needs.{needs}
@@ -8,21 +9,20 @@ use Rattle.walk.proofs.onward.Statement.{statement}
 use Rattle.walk.proofs.onward.Tie as tie
 
 abbrev Inv-loop : tie.InvT-loop
-Inv-loop entries adapters routes marks place out-adapter out-hop hops₀ p₀ out₀ h₀ hops p out h =
-    Kept entries adapters routes marks place out-adapter out-hop hops p out h
+Inv-loop entries adapters routes marks place out-adapter out-hop left₀ hops₀ p₀ out₀ h₀ left hops p out h =
+    Kept entries adapters routes marks place out-adapter out-hop hops p out h × (left + hops ≡ length entries)
 
 abbrev μ-loop : tie.MeasureT-loop
-μ-loop entries adapters routes marks place out-adapter out-hop hops₀ p₀ out₀ h₀ hops p out h =
-    length entries - hops
+μ-loop entries adapters routes marks place out-adapter out-hop left₀ hops₀ p₀ out₀ h₀ left hops p out h = left
 
 loop-holds : tie.Need-loop-holds Inv-loop μ-loop
-loop-holds c = kept-start _ _ _ _
+loop-holds c = (kept-start _ _ _ _, omega arith)
 
 returns : tie.Need-returns Inv-loop μ-loop
-returns c = kept-ring _ _ _ _ (c .before .loop .inv) (c .if1 .taken)
+returns c = kept-ring _ _ _ _ (c .before .loop .inv .0) (omega (arith, c .before .loop .inv .1, c .if1 .taken))
 
 add-hops : tie.Need-add-hops Inv-loop μ-loop
-add-hops c = omega arith
+add-hops c = omega (arith, c .before .loop .inv .1, c .if1 .left)
 
 leads-requires : tie.Need-leads-requires Inv-loop μ-loop
 leads-requires c κs = search needs
@@ -44,35 +44,35 @@ returns-2 c =
     let f = c .before .before in
     let v = f .before .before in
     let m = v .before .before in
-    kept-stops _ _ _ _ (m .before .before .loop .inv) (m .before .if1 .left) (m .leads .ensures) (v .q .given .1) (f .find-entry .ensures) (c .enum-told .given .1)
+    kept-stops _ _ _ _ (m .before .before .loop .inv .0) (omega (arith, m .before .before .loop .inv .1, m .before .if1 .left)) (m .leads .ensures) (v .q .given .1) (f .find-entry .ensures) (c .enum-told .given .1)
 
 loop-less : tie.Need-loop-less Inv-loop μ-loop
-loop-less c = omega arith
+loop-less c = omega (arith, c .before .before .before .before .before .before .before .before .if1 .left)
 
 loop-again : tie.Need-loop-again Inv-loop μ-loop
 loop-again c =
     let f = c .before .before .before in
     let v = f .before .before in
     let m = v .before .before in
-    kept-on _ _ _ _ (m .before .before .loop .inv) (m .before .if1 .left) (m .leads .ensures) (v .q .given .1) (f .find-entry .ensures) (c .before .o .given .1)
+    (kept-on _ _ _ _ (m .before .before .loop .inv .0) (omega (arith, m .before .before .loop .inv .1, m .before .if1 .left)) (m .leads .ensures) (v .q .given .1) (f .find-entry .ensures) (c .before .o .given .1), omega (arith, m .before .before .loop .inv .1, m .before .if1 .left))
 
 enum-told-2 : tie.Need-enum-told-2 Inv-loop μ-loop
 enum-told-2 c = search needs
 
 returns-3 : tie.Need-returns-3 Inv-loop μ-loop
-returns-3 c = let m = c .before .before in kept-last _ _ _ _ (m .before .before .loop .inv) (m .before .if1 .left) (m .leads .ensures) (c .enum-told2 .given .1)
+returns-3 c = let m = c .before .before in kept-last _ _ _ _ (m .before .before .loop .inv .0) (omega (arith, m .before .before .loop .inv .1, m .before .if1 .left)) (m .leads .ensures) (c .enum-told2 .given .1)
 
 enum-told-3 : tie.Need-enum-told-3 Inv-loop μ-loop
 enum-told-3 c = search needs
 
 returns-4 : tie.Need-returns-4 Inv-loop μ-loop
-returns-4 c = let m = c .before .before in kept-dropped _ _ _ _ (m .before .before .loop .inv) (m .before .if1 .left) (m .leads .ensures) (c .enum-told3 .given .1)
+returns-4 c = let m = c .before .before in kept-dropped _ _ _ _ (m .before .before .loop .inv .0) (omega (arith, m .before .before .loop .inv .1, m .before .if1 .left)) (m .leads .ensures) (c .enum-told3 .given .1)
 
 enum-known-refusal : tie.Need-enum-known-refusal Inv-loop μ-loop
 enum-known-refusal c = search needs
 
 returns-5 : tie.Need-returns-5 Inv-loop μ-loop
-returns-5 c = let m = c .before .before .before in kept-refused _ _ _ _ (m .before .before .loop .inv) (m .before .if1 .left) (m .leads .ensures) (c .before .refusal .given .1)
+returns-5 c = let m = c .before .before .before in kept-refused _ _ _ _ (m .before .before .loop .inv .0) (omega (arith, m .before .before .loop .inv .1, m .before .if1 .left)) (m .leads .ensures) (c .before .refusal .given .1)
 
 pub onward-spec : {M : Type 1} → statement M
 onward-spec =
