@@ -19,7 +19,7 @@ use Rattle.columns.specs.declared.Quick.the-variants as quick
 use Rattle.register.specs.Line.{max16, max32, meaning}
 use Rattle.columns.specs.Lines.{MetAt}
 
--- above any sum of four digits: what stands for a byte that is no digit
+-- above any number of eight digits: what stands for a byte that is no digit
 abbrev pub noDigit : ℕ
 noDigit = 0x100000000
 
@@ -39,7 +39,7 @@ pub record Run (s : List ℕ) (i k : ℕ) (ts : List (List ℕ)) : Type 0 where
   pub cut : (m : ℕ) → k + m ≤ length s → tokens (take (k - i + m) (drop i s)) ≡ ts ++ tokens (take m (drop k s))
   pub same-line : placeFrom isLineFeed s i ≡ placeFrom isLineFeed s k
 
--- the line that n bytes follow from i on ends there
+-- LF or the end stands n bytes after i
 pub record Ends (s : List ℕ) (i n : ℕ) : Type 0 where
   pub within : i + n ≤ length s
   pub stops-there : placeFrom isLineFeed s (i + n) ≡ i + n

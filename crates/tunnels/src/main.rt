@@ -117,7 +117,7 @@ fn write_tables(
     );
 }
 
-// Writes the lines of a text that was opened, or its refusal. This is a function of its own, whose tables begin to live when loading's have ended: the compiler then gives both the same stack.
+// Writes the lines of a text that was opened, or its refusal. This is a function of its own, so that its copies of the tables and those of loading, which has ended, get the same stack.
 fn write_opened(opened: Opened)
     requires { ⌜ UsedBy opened (opened .answer) ⌝ }
 {

@@ -13,28 +13,22 @@ use Rattle.devices.proofs.device.Tie as tie
 abbrev info : DeviceFacts → ℕ → Outcome Info
 info d n = value (record { kind = d .kind; usb4 = d .usb4; domain = d .domain; route = d .route; depth = n })
 
--- src/lib.rt:130:11
 read-device-requires : tie.Need-read-device-requires
 read-device-requires c κs = search needs
 
--- src/lib.rt:131:29
 enum-known-refusal : tie.Need-enum-known-refusal
 enum-known-refusal c = search needs
 
--- src/lib.rt:132:28
 enum-known-d : tie.Need-enum-known-d
 enum-known-d c = search needs
 
--- src/lib.rt:139:24
 depth-requires : tie.Need-depth-requires
 depth-requires c κs = search needs
 
--- src/lib.rt:127:1
 returns : tie.Need-returns
 unfolding deviceOutcome deviceAnswer
 returns c = read-refused _ _ _ _ _ (c .before .before .before .read-device .ensures) _ (c .before .refusal .given .1)
 
--- src/lib.rt:127:1
 returns-2 : tie.Need-returns-2
 unfolding deviceOutcome deviceAnswer infoIn infoOf deviceRow
 returns-2 c = ap (info (c .before .before .d .given .0 .0)) (c .depth .ensures) ∙ read-device _ _ _ (λ x. value (infoOf x)) _ (c .before .before .before .before .read-device .ensures) _ (c .before .before .d .given .1)

@@ -9,57 +9,44 @@ use borrow.Author.Needs.{needs}
 use Rattle.devices.proofs.read_device.Statement.{statement}
 use Rattle.devices.proofs.read_device.Tie as tie
 
--- src/lib.rt:75:9
 load-requires : tie.Need-load-requires
 load-requires c κs = search needs
 
--- src/lib.rt:78:29
 enum-known-answer : tie.Need-enum-known-answer
 enum-known-answer c = search needs
 
--- src/lib.rt:82:13
 enum-known-answer-2 : tie.Need-enum-known-answer-2
 enum-known-answer-2 c = search needs
 
--- src/lib.rt:86:39
 array-share-prefix-routes : tie.Need-array-share-prefix-routes
 array-share-prefix-routes c = held _ _ _ _ _ (c .before .before .before .before .before .load .ok) (c .before .before .before .answer2 .given .1) (c .before .before .before .before .before .load .ensures .1) .routes
 
--- src/lib.rt:86:39
 slice-aggregate-find-device : tie.Need-slice-aggregate-find-device
 slice-aggregate-find-device c = sym (length-take-le _ _ (held _ _ _ _ _ (c .before .before .before .before .before .before .load .ok) (c .before .before .before .before .answer2 .given .1) (c .before .before .before .before .before .before .load .ensures .1) .routes))
 
--- src/lib.rt:86:59
 array-share-prefix-marks : tie.Need-array-share-prefix-marks
 array-share-prefix-marks c = held _ _ _ _ _ (c .before .before .before .before .before .before .load .ok) (c .before .before .before .before .answer2 .given .1) (c .before .before .before .before .before .before .load .ensures .1) .marks
 
--- src/lib.rt:86:59
 slice-aggregate-find-device-2 : tie.Need-slice-aggregate-find-device-2
 slice-aggregate-find-device-2 c = sym (length-take-le _ _ (held _ _ _ _ _ (c .before .before .before .before .before .before .before .load .ok) (c .before .before .before .before .before .answer2 .given .1) (c .before .before .before .before .before .before .before .load .ensures .1) .marks))
 
--- src/lib.rt:86:19
 find-device-requires : tie.Need-find-device-requires
 find-device-requires c κs = search needs
 
--- src/lib.rt:87:61
 enum-told : tie.Need-enum-told
 enum-told c = search needs
 
--- src/lib.rt:88:37
 enum-known-d : tie.Need-enum-known-d
 enum-known-d c = search needs
 
--- src/lib.rt:72:1
 returns : tie.Need-returns
 unfolding readOutcome readDevice
 returns c = load-refused _ _ _ (c .before .before .before .load .ensures .0) _ _ (c .before .answer .given .1)
 
--- src/lib.rt:72:1
 returns-2 : tie.Need-returns-2
 unfolding readOutcome readDevice askedDevice present refusedBy deviceFound
 returns-2 c = ap present (sym (ap (deviceFound _) (c .enum-told .given .1)) ∙ c .before .before .find-device .ensures) ∙ load-tables _ _ _ (c .before .before .before .before .before .before .before .before .before .before .load .ensures .0) _ _ _ _ (c .before .before .before .before .before .before .before .before .answer2 .given .1)
 
--- src/lib.rt:72:1
 returns-3 : tie.Need-returns-3
 unfolding readOutcome readDevice askedDevice present deviceFound
 returns-3 c = ap present (sym (ap (deviceFound _) (c .before .d .given .1)) ∙ c .before .before .before .find-device .ensures) ∙ load-tables _ _ _ (c .before .before .before .before .before .before .before .before .before .before .before .load .ensures .0) _ _ _ _ (c .before .before .before .before .before .before .before .before .before .answer2 .given .1)

@@ -8,46 +8,36 @@ use borrow.Author.Needs.{needs}
 use Rattle.devices.proofs.upstream_adapter.Statement.{statement}
 use Rattle.devices.proofs.upstream_adapter.Tie as tie
 
--- src/lib.rt:149:11
 read-device-requires : tie.Need-read-device-requires
 read-device-requires c κs = search needs
 
--- src/lib.rt:150:29
 enum-known-refusal : tie.Need-enum-known-refusal
 enum-known-refusal c = search needs
 
--- src/lib.rt:151:28
 enum-known-d : tie.Need-enum-known-d
 enum-known-d c = search needs
 
--- src/lib.rt:154:35
 enum-known-upstream : tie.Need-enum-known-upstream
 enum-known-upstream c = search needs
 
--- src/lib.rt:155:35
 enum-told : tie.Need-enum-told
 enum-told c = search needs
 
--- src/lib.rt:156:92
 enum-told-2 : tie.Need-enum-told-2
 enum-told-2 c = search needs
 
--- src/lib.rt:146:1
 returns : tie.Need-returns
 unfolding upstreamOutcome upstreamAnswer
 returns c = read-refused _ _ _ _ _ (c .before .before .before .read-device .ensures) _ (c .before .refusal .given .1)
 
--- src/lib.rt:146:1
 returns-2 : tie.Need-returns-2
 unfolding upstreamOutcome upstreamAnswer upstreamFound deviceRow
 returns-2 c = sym (ap (upstreamFound (adapterSite (c .before .before .before .before .before .before .before .before .before .args .place) 0)) (c .before .upstream .given .1)) ∙ read-device _ _ _ (λ x. x .upstream) _ (c .before .before .before .before .before .before .read-device .ensures) _ (c .before .before .before .before .d .given .1)
 
--- src/lib.rt:146:1
 returns-3 : tie.Need-returns-3
 unfolding upstreamOutcome upstreamAnswer upstreamFound deviceRow
 returns-3 c = sym (ap (upstreamFound (adapterSite (c .before .before .before .before .before .before .before .before .args .place) 0)) (c .enum-told .given .1)) ∙ read-device _ _ _ (λ x. x .upstream) _ (c .before .before .before .before .before .read-device .ensures) _ (c .before .before .before .d .given .1)
 
--- src/lib.rt:146:1
 returns-4 : tie.Need-returns-4
 unfolding upstreamOutcome upstreamAnswer upstreamFound deviceRow refusedBy adapterSite
 returns-4 c = sym (ap (upstreamFound (adapterSite (c .before .before .before .before .before .before .before .before .args .place) 0)) (c .enum-told2 .given .1)) ∙ read-device _ _ _ (λ x. x .upstream) _ (c .before .before .before .before .before .read-device .ensures) _ (c .before .before .before .d .given .1)

@@ -9,64 +9,49 @@ use borrow.Author.Needs.{needs}
 use Rattle.discoveries.proofs.discover.Statement.{statement}
 use Rattle.discoveries.proofs.discover.Tie as tie
 
--- src/lib.rt:17:9
 load-requires : tie.Need-load-requires
 load-requires c κs = search needs
 
--- src/lib.rt:20:29
 enum-known-answer : tie.Need-enum-known-answer
 enum-known-answer c = search needs
 
--- src/lib.rt:22:13
 enum-known-answer-2 : tie.Need-enum-known-answer-2
 enum-known-answer-2 c = search needs
 
--- src/lib.rt:31:17
 array-share-prefix-paths : tie.Need-array-share-prefix-paths
 array-share-prefix-paths c = held _ _ _ _ _ (c .before .before .before .before .before .before .before .load .ok) (c .before .before .before .before .before .answer2 .given .1) (c .before .before .before .before .before .before .before .load .ensures .1) .entries
 
--- src/lib.rt:31:17
 slice-aggregate-discover-in : tie.Need-slice-aggregate-discover-in
 slice-aggregate-discover-in c = sym (length-take-le _ _ (held _ _ _ _ _ (c .before .before .before .before .before .before .before .before .load .ok) (c .before .before .before .before .before .before .answer2 .given .1) (c .before .before .before .before .before .before .before .before .load .ensures .1) .entries))
 
--- src/lib.rt:32:17
 array-share-prefix-table : tie.Need-array-share-prefix-table
 array-share-prefix-table c = held _ _ _ _ _ (c .before .before .before .before .before .before .before .before .load .ok) (c .before .before .before .before .before .before .answer2 .given .1) (c .before .before .before .before .before .before .before .before .load .ensures .1) .adapters
 
--- src/lib.rt:32:17
 slice-aggregate-discover-in-2 : tie.Need-slice-aggregate-discover-in-2
 slice-aggregate-discover-in-2 c = sym (length-take-le _ _ (held _ _ _ _ _ (c .before .before .before .before .before .before .before .before .before .load .ok) (c .before .before .before .before .before .before .before .answer2 .given .1) (c .before .before .before .before .before .before .before .before .before .load .ensures .1) .adapters))
 
--- src/lib.rt:33:17
 array-share-prefix-routes : tie.Need-array-share-prefix-routes
 array-share-prefix-routes c = held _ _ _ _ _ (c .before .before .before .before .before .before .before .before .before .load .ok) (c .before .before .before .before .before .before .before .answer2 .given .1) (c .before .before .before .before .before .before .before .before .before .load .ensures .1) .routes
 
--- src/lib.rt:33:17
 slice-aggregate-discover-in-3 : tie.Need-slice-aggregate-discover-in-3
 slice-aggregate-discover-in-3 c = sym (length-take-le _ _ (held _ _ _ _ _ (c .before .before .before .before .before .before .before .before .before .before .load .ok) (c .before .before .before .before .before .before .before .before .answer2 .given .1) (c .before .before .before .before .before .before .before .before .before .before .load .ensures .1) .routes))
 
--- src/lib.rt:34:17
 array-share-prefix-marks : tie.Need-array-share-prefix-marks
 array-share-prefix-marks c = held _ _ _ _ _ (c .before .before .before .before .before .before .before .before .before .before .load .ok) (c .before .before .before .before .before .before .before .before .answer2 .given .1) (c .before .before .before .before .before .before .before .before .before .before .load .ensures .1) .marks
 
--- src/lib.rt:34:17
 slice-aggregate-discover-in-4 : tie.Need-slice-aggregate-discover-in-4
 slice-aggregate-discover-in-4 c = sym (length-take-le _ _ (held _ _ _ _ _ (c .before .before .before .before .before .before .before .before .before .before .before .load .ok) (c .before .before .before .before .before .before .before .before .before .answer2 .given .1) (c .before .before .before .before .before .before .before .before .before .before .before .load .ensures .1) .marks))
 
--- src/lib.rt:30:13
 discover-in-requires : tie.Need-discover-in-requires
 discover-in-requires c κs = search needs
 
--- src/lib.rt:8:1
 returns : tie.Need-returns
 unfolding discoverAnswer
 returns c = laws.turned-away _ _ _ _ _ _ (load-refused _ _ _ (c .before .before .before .load .ensures .0) _ _ (c .before .answer .given .1))
 
--- src/lib.rt:8:1
 same-length : tie.Need-same-length
 same-length c = search needs
 
--- src/lib.rt:8:1
 returns-2 : tie.Need-returns-2
 returns-2 c = let u = usable _ _ _ _ (c .before .before .before .before .before .before .before .before .before .before .before .before .before .answer2 .given .1) (c .before .before .before .before .before .before .before .before .before .before .before .before .before .before .before .load .ensures .1) in let w = held _ _ _ _ _ (c .before .before .before .before .before .before .before .before .before .before .before .before .before .before .before .load .ok) (c .before .before .before .before .before .before .before .before .before .before .before .before .before .answer2 .given .1) (c .before .before .before .before .before .before .before .before .before .before .before .before .before .before .before .load .ensures .1) in
     laws.done _ _ _ _ _ _ _ _ _ (rows-loaded _ _ _ _ _ _ (c .before .before .before .before .before .before .before .before .before .before .before .before .before .before .before .load .ensures .0) (c .before .before .before .before .before .before .before .before .before .before .before .before .before .answer2 .given .1)) (sized _ _ _ _ u w) (tabled _ _ _ _ u w) _ _ (c .before .before .discover-in .ensures)

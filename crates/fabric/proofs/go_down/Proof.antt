@@ -11,36 +11,28 @@ use borrow.Author.Needs.{needs}
 use Rattle.fabric.proofs.go_down.Statement.{statement}
 use Rattle.fabric.proofs.go_down.Tie as tie
 
--- src/lib.rt:122:33
 find-router-requires : tie.Need-find-router-requires
 find-router-requires c κs = search needs
 
--- src/lib.rt:122:28
 enum-known-q : tie.Need-enum-known-q
 enum-known-q c = search needs
 
--- src/lib.rt:123:9
 enum-told : tie.Need-enum-told
 enum-told c = search needs
 
--- src/lib.rt:123:9
 returns : tie.Need-returns
 unfolding nextOutcome rowsWith deviceRow routerFound
 returns c = λ p. record { leads-to = λ k es. to-none _ _ _ _ (ap routerFound (sym (c .enum-told .given .1)) ∙ c .before .before .find-router .ensures) }
 
--- src/lib.rt:125:34
 find-device-requires : tie.Need-find-device-requires
 find-device-requires c κs = search needs
 
--- src/lib.rt:125:29
 enum-known-e : tie.Need-enum-known-e
 enum-known-e c = search needs
 
--- src/lib.rt:126:9
 enum-told-2 : tie.Need-enum-told-2
 enum-told-2 c = search needs
 
--- src/lib.rt:126:9
 returns-2 : tie.Need-returns-2
 unfolding nextOutcome rowsWith deviceRow routerFound deviceFound toDevice
 returns-2 c = λ p. record {
@@ -48,23 +40,18 @@ returns-2 c = λ p. record {
       to-device _ _ _ _ _ _ at (ap (deviceFound _) (sym (c .enum-told2 .given .1)) ∙ c .before .before .find-device .ensures);
 }
 
--- src/lib.rt:130:27
 enum-told-3 : tie.Need-enum-told-3
 enum-told-3 c = search needs
 
--- src/lib.rt:131:74
 enum-told-4 : tie.Need-enum-told-4
 enum-told-4 c = search needs
 
--- src/lib.rt:135:27
 enum-known-upstream : tie.Need-enum-known-upstream
 enum-known-upstream c = search needs
 
--- src/lib.rt:135:33
 stand-at-requires : tie.Need-stand-at-requires
 stand-at-requires c κs = search needs
 
--- src/lib.rt:119:1
 returns-3 : tie.Need-returns-3
 unfolding nextOutcome rowsWith deviceRow routerFound deviceFound upstreamOutcome bind downBy
 returns-3 c = λ p. record {
@@ -73,7 +60,6 @@ returns-3 c = λ p. record {
       went-down _ _ _ _ _ at there _ (ap (upstreamOutcome (adapterSite _ 0)) (sym (c .enum-told3 .given .1)));
 }
 
--- src/lib.rt:119:1
 returns-4 : tie.Need-returns-4
 unfolding nextOutcome rowsWith deviceRow routerFound deviceFound upstreamOutcome bind refusedBy refusalOf adapterSite
 returns-4 c = λ p. record {
@@ -82,7 +68,6 @@ returns-4 c = λ p. record {
       went-down _ _ _ _ _ at there _ (ap (upstreamOutcome (adapterSite _ 0)) (sym (c .enum-told4 .given .1)));
 }
 
--- src/lib.rt:119:1
 returns-5 : tie.Need-returns-5
 unfolding nextOutcome rowsWith deviceRow routerFound deviceFound upstreamOutcome bind downBy standAt
 returns-5 c = λ p. record {

@@ -7,36 +7,28 @@ use borrow.Author.Needs.{needs}
 use Rattle.fabric.proofs.go_up.Statement.{statement}
 use Rattle.fabric.proofs.go_up.Tie as tie
 
--- src/lib.rt:105:33
 find-router-requires : tie.Need-find-router-requires
 find-router-requires c κs = search needs
 
--- src/lib.rt:105:28
 enum-known-q : tie.Need-enum-known-q
 enum-known-q c = search needs
 
--- src/lib.rt:106:9
 enum-told : tie.Need-enum-told
 enum-told c = search needs
 
--- src/lib.rt:106:9
 returns : tie.Need-returns
 unfolding nextOutcome rowsWith deviceRow routerFound
 returns c = λ p. record { leads-to = λ k es. to-none _ _ _ _ (ap routerFound (sym (c .enum-told .given .1)) ∙ c .before .before .find-router .ensures) }
 
--- src/lib.rt:108:34
 find-device-requires : tie.Need-find-device-requires
 find-device-requires c κs = search needs
 
--- src/lib.rt:108:29
 enum-known-e : tie.Need-enum-known-e
 enum-known-e c = search needs
 
--- src/lib.rt:109:9
 enum-told-2 : tie.Need-enum-told-2
 enum-told-2 c = search needs
 
--- src/lib.rt:109:9
 returns-2 : tie.Need-returns-2
 unfolding nextOutcome rowsWith deviceRow routerFound deviceFound toDevice
 returns-2 c = λ p. record {
@@ -44,19 +36,15 @@ returns-2 c = λ p. record {
       to-device _ _ _ _ _ _ at (ap (deviceFound _) (sym (c .enum-told2 .given .1)) ∙ c .before .before .find-device .ensures);
 }
 
--- src/lib.rt:111:36
 downstream-adapter-requires : tie.Need-downstream-adapter-requires
 downstream-adapter-requires c κs = search needs
 
--- src/lib.rt:111:31
 enum-known-n : tie.Need-enum-known-n
 enum-known-n c = search needs
 
--- src/lib.rt:113:9
 enum-told-3 : tie.Need-enum-told-3
 enum-told-3 c = search needs
 
--- src/lib.rt:113:9
 returns-3 : tie.Need-returns-3
 unfolding nextOutcome rowsWith deviceRow routerFound deviceFound upBy
 returns-3 c = λ p. record {
@@ -65,11 +53,9 @@ returns-3 c = λ p. record {
       went-up _ _ _ _ _ at there _ _ (c .before .before .downstream-adapter .ensures) (c .enum-told3 .given .1);
 }
 
--- src/lib.rt:115:5
 stand-at-requires : tie.Need-stand-at-requires
 stand-at-requires c κs = search needs
 
--- src/lib.rt:102:1
 returns-4 : tie.Need-returns-4
 unfolding nextOutcome rowsWith deviceRow routerFound deviceFound upBy standAt
 returns-4 c = λ p. record {

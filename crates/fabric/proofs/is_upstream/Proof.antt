@@ -6,29 +6,23 @@ use borrow.Author.Needs.{needs}
 use Rattle.fabric.proofs.is_upstream.Statement.{statement}
 use Rattle.fabric.proofs.is_upstream.Tie as tie
 
--- src/lib.rt:44:27
 enum-known-upstream : tie.Need-enum-known-upstream
 enum-known-upstream c = search needs
 
--- src/lib.rt:45:27
 enum-told : tie.Need-enum-told
 enum-told c = search needs
 
--- src/lib.rt:46:30
 enum-told-2 : tie.Need-enum-told-2
 enum-told-2 c = search needs
 
--- src/lib.rt:40:1
 returns : tie.Need-returns
 unfolding isUpstream upstreamOutcome
 returns c = λ s. sym (ap (λ u. isUpstream (upstreamOutcome s u) (c .before .before .before .args .number)) (c .before .upstream .given .1))
 
--- src/lib.rt:40:1
 returns-2 : tie.Need-returns-2
 unfolding isUpstream upstreamOutcome
 returns-2 c = λ s. sym (ap (λ u. isUpstream (upstreamOutcome s u) (c .before .before .args .number)) (c .enum-told .given .1))
 
--- src/lib.rt:40:1
 returns-3 : tie.Need-returns-3
 unfolding isUpstream upstreamOutcome refusalOf
 returns-3 c = λ s. sym (ap (λ u. isUpstream (upstreamOutcome s u) (c .before .before .args .number)) (c .enum-told2 .given .1))

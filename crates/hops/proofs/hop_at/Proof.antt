@@ -3,51 +3,39 @@ use borrow.Author.Needs.{needs}
 use Rattle.hops.proofs.hop_at.Statement.{statement}
 use Rattle.hops.proofs.hop_at.Tie as tie
 
--- src/lib.rt:51:44
 mul-word-at : tie.Need-mul-word-at
 mul-word-at c = search needs
 
--- src/lib.rt:51:40
 add-word-at : tie.Need-add-word-at
 add-word-at c = search needs
 
--- src/lib.rt:51:9
 word-at-requires : tie.Need-word-at-requires
 word-at-requires c κs = search needs
 
--- src/lib.rt:52:45
 mul-word-at-2 : tie.Need-mul-word-at-2
 mul-word-at-2 c = search needs
 
--- src/lib.rt:52:41
 add-word-at-2 : tie.Need-add-word-at-2
 add-word-at-2 c = search needs
 
--- src/lib.rt:52:9
 word-at-requires-2 : tie.Need-word-at-requires-2
 word-at-requires-2 c κs = search needs
 
--- src/lib.rt:54:16
 place-in-requires : tie.Need-place-in-requires
 place-in-requires c κs = search needs
 
--- src/lib.rt:55:21
 cast-t9 : tie.Need-cast-t9
 cast-t9 c = search needs
 
--- src/lib.rt:56:17
 cast-t11 : tie.Need-cast-t11
 cast-t11 c = search needs
 
--- src/lib.rt:57:22
 cast-t13 : tie.Need-cast-t13
 cast-t13 c = search needs
 
--- src/lib.rt:58:18
 cast-t15 : tie.Need-cast-t15
 cast-t15 c = search needs
 
--- src/lib.rt:47:1
 returns : tie.Need-returns
 returns c = hop-made _ _ _ _ _ (c .place-in .ensures) (c .before .before .word-at .ensures) (c .before .word-at2 .ensures)
 

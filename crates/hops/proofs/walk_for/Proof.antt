@@ -4,47 +4,36 @@ use borrow.Author.Needs.{needs}
 use Rattle.hops.proofs.walk_for.Statement.{statement}
 use Rattle.hops.proofs.walk_for.Tie as tie
 
--- src/lib.rt:86:82
 slice-aggregate-discover-path : tie.Need-slice-aggregate-discover-path
 slice-aggregate-discover-path c = search needs
 
--- src/lib.rt:86:9
 discover-path-requires : tie.Need-discover-path-requires
 discover-path-requires c κs = search needs
 
--- src/lib.rt:88:26
 enum-known-walked : tie.Need-enum-known-walked
 enum-known-walked c = search needs
 
--- src/lib.rt:90:17
 returns : tie.Need-returns
 returns c = laws.ready-short _ _ _ _ _ _ (c .before .before .before .before .before .discover-path .ensures) _ (c .before .before .walked .given .1) _ (c .if1 .taken)
 
--- src/lib.rt:103:21
 enum-told : tie.Need-enum-told
 enum-told c = search needs
 
--- src/lib.rt:107:27
 enum-known-walked-2 : tie.Need-enum-known-walked-2
 enum-known-walked-2 c = search needs
 
--- src/lib.rt:112:29
 enum-known-walked-3 : tie.Need-enum-known-walked-3
 enum-known-walked-3 c = search needs
 
--- src/lib.rt:75:1
 returns-2 : tie.Need-returns-2
 returns-2 c = laws.ready-path _ _ _ _ _ _ (c .before .before .before .before .before .discover-path .ensures) _ (c .before .before .walked .given .1) _ (c .if1 .left)
 
--- src/lib.rt:75:1
 returns-3 : tie.Need-returns-3
 returns-3 c = laws.ready-absent _ _ _ _ _ _ (c .before .before .before .discover-path .ensures) (c .enum-told .given .1) _
 
--- src/lib.rt:75:1
 returns-4 : tie.Need-returns-4
 returns-4 c = laws.ready-two _ _ _ _ _ _ (c .before .before .before .before .discover-path .ensures) refl _ (c .before .walked2 .given .1) _
 
--- src/lib.rt:75:1
 returns-5 : tie.Need-returns-5
 returns-5 c = laws.ready-refused _ _ _ _ _ _ (c .before .before .before .before .discover-path .ensures) refl _ (c .before .walked3 .given .1) _
 

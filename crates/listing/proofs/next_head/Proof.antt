@@ -12,59 +12,45 @@ Inv-loop survey from i₀ i = Ahead survey from i
 abbrev μ-loop : tie.MeasureT-loop
 μ-loop survey from i₀ i = length survey - i
 
--- src/lib.rt:38:5
 loop-holds : tie.Need-loop-holds Inv-loop μ-loop
 loop-holds c = ahead-start (now (c .args .survey)) (c .args .from)
 
--- src/lib.rt:39:20
 mul-kind : tie.Need-mul-kind Inv-loop μ-loop
 mul-kind c = omega (arith, c .before .before .good)
 
--- src/lib.rt:39:20
 shared-slice-read-kind : tie.Need-shared-slice-read-kind Inv-loop μ-loop
 shared-slice-read-kind c = omega (arith, c .before .loop-test .taken)
 
--- src/lib.rt:41:13
 returns : tie.Need-returns Inv-loop μ-loop
 returns c = head-adapter (now (c .before .before .before .before .args .survey)) (c .before .before .before .before .args .from) (c .before .before .before .loop .i) (c .before .before .before .loop .inv) (c .before .before .loop-test .taken) (c .if1 .taken)
 
--- src/lib.rt:44:31
 add-if3 : tie.Need-add-if3 Inv-loop μ-loop
 add-if3 c = omega (arith, c .before .before .before .before .before .good, c .before .before .before .loop-test .taken)
 
--- src/lib.rt:45:17
 returns-2 : tie.Need-returns-2 Inv-loop μ-loop
 returns-2 c = head-cut (now (c .before .before .before .before .before .before .args .survey)) (c .before .before .before .before .before .before .args .from) (c .before .before .before .before .before .loop .i) (c .before .before .before .before .before .loop .inv) (c .before .before .before .before .loop-test .taken) (c .before .if2 .taken) (c .if3 .taken)
 
--- src/lib.rt:47:13
 returns-3 : tie.Need-returns-3 Inv-loop μ-loop
 returns-3 c = head-device (now (c .before .before .before .before .before .before .args .survey)) (c .before .before .before .before .before .before .args .from) (c .before .before .before .before .before .loop .i) (c .before .before .before .before .before .loop .inv) (c .before .before .before .before .loop-test .taken) (c .before .if2 .taken) (c .if3 .left)
 
--- src/lib.rt:50:13
 add-i : tie.Need-add-i Inv-loop μ-loop
 add-i c = omega (arith, c .before .before .before .before .before .before .good, c .before .before .before .before .loop-test .taken)
 
--- src/lib.rt:38:5
 loop-less : tie.Need-loop-less Inv-loop μ-loop
 loop-less c = omega (arith, c .before .before .before .before .loop-test .taken)
 
--- src/lib.rt:38:5
 loop-again : tie.Need-loop-again Inv-loop μ-loop
 loop-again c = ahead-register (now (c .before .before .before .before .before .before .args .survey)) (c .before .before .before .before .before .before .args .from) (c .before .before .before .before .before .loop .i) (c .before .before .before .before .before .loop .inv) (c .before .before .before .before .loop-test .taken) (c .if4 .taken)
 
--- src/lib.rt:52:13
 add-i-2 : tie.Need-add-i-2 Inv-loop μ-loop
 add-i-2 c = omega (arith, c .before .before .before .before .before .before .good, c .before .before .before .before .loop-test .taken)
 
--- src/lib.rt:38:5
 loop-less-2 : tie.Need-loop-less-2 Inv-loop μ-loop
 loop-less-2 c = omega (arith, c .before .before .before .before .loop-test .taken)
 
--- src/lib.rt:38:5
 loop-again-2 : tie.Need-loop-again-2 Inv-loop μ-loop
 loop-again-2 c = ahead-other (now (c .before .before .before .before .before .before .args .survey)) (c .before .before .before .before .before .before .args .from) (c .before .before .before .before .before .loop .i) (c .before .before .before .before .before .loop .inv) (c .before .before .before .before .loop-test .taken) (c .before .if2 .left) (c .before .before .if1 .left) (c .if4 .left)
 
--- src/lib.rt:34:1
 returns-4 : tie.Need-returns-4 Inv-loop μ-loop
 returns-4 c = head-past (now (c .before .before .args .survey)) (c .before .before .args .from) (c .before .loop .i) (c .before .loop .inv) (c .loop-test .left)
 

@@ -18,65 +18,50 @@ Inv-loop descriptions survey entries₀ adapters₀ routes₀ marks₀ n₀ m₀
 abbrev μ-loop : tie.MeasureT-loop
 μ-loop descriptions survey entries₀ adapters₀ routes₀ marks₀ n₀ m₀ place₀ i₀ entries adapters routes marks n m place i = length survey - i
 
--- src/lib.rt:602:9
 next-head-requires : tie.Need-next-head-requires Inv-loop μ-loop
 next-head-requires c κs = tt
 
--- src/lib.rt:603:5
 loop-holds : tie.Need-loop-holds Inv-loop μ-loop
 loop-holds c = (refl, refl, refl, refl, filling-start _ _ _ _ _ _ _ (c .next-head .ensures))
 
--- src/lib.rt:604:12
 mul-if1 : tie.Need-mul-if1 Inv-loop μ-loop
 mul-if1 c = search needs
 
--- src/lib.rt:604:12
 shared-slice-read-if1 : tie.Need-shared-slice-read-if1 Inv-loop μ-loop
 shared-slice-read-if1 c = c .before .loop-test .taken
 
--- src/lib.rt:605:44
 add-next-head : tie.Need-add-next-head Inv-loop μ-loop
 add-next-head c = search needs
 
--- src/lib.rt:605:13
 next-head-requires-2 : tie.Need-next-head-requires-2 Inv-loop μ-loop
 next-head-requires-2 c κs = tt
 
--- src/lib.rt:603:5
 loop-less : tie.Need-loop-less Inv-loop μ-loop
 loop-less c = omega (arith, filling-adapter _ _ _ _ _ _ _ _ _ _ _ (c .before .before .before .before .loop .inv .4) _ (c .before .before .before .loop-test .taken) (c .before .if1 .taken) (c .next-head2 .ensures) .0, c .before .before .before .loop-test .taken)
 
--- src/lib.rt:603:5
 loop-again : tie.Need-loop-again Inv-loop μ-loop
 loop-again c =
     let b = c .before .before .before .before .loop .inv in
     (b .0, b .1, b .2, b .3, filling-adapter _ _ _ _ _ _ _ _ _ _ _ (b .4) _ (c .before .before .before .loop-test .taken) (c .before .if1 .taken) (c .next-head2 .ensures) .1)
 
--- src/lib.rt:607:47
 add-word-at : tie.Need-add-word-at Inv-loop μ-loop
 add-word-at c = omega (arith, c .before .before .before .before .before .before .before .before .before .before .before .good, c .before .before .loop-test .taken)
 
--- src/lib.rt:607:23
 word-at-requires : tie.Need-word-at-requires Inv-loop μ-loop
 word-at-requires c κs = tt
 
--- src/lib.rt:607:23
 cast-low : tie.Need-cast-low Inv-loop μ-loop
 cast-low c = search needs
 
--- src/lib.rt:608:48
 add-word-at-2 : tie.Need-add-word-at-2 Inv-loop μ-loop
 add-word-at-2 c = omega (arith, c .before .before .before .before .before .before .before .before .before .before .before .before .good, c .before .before .before .loop-test .taken)
 
--- src/lib.rt:608:24
 word-at-requires-2 : tie.Need-word-at-requires-2 Inv-loop μ-loop
 word-at-requires-2 c κs = tt
 
--- src/lib.rt:608:24
 cast-high : tie.Need-cast-high Inv-loop μ-loop
 cast-high c = search needs
 
--- src/lib.rt:609:19
 load-device-requires : tie.Need-load-device-requires Inv-loop μ-loop
 load-device-requires c κs =
     let p = c .before .before .before .before .before .before .before .before .before .before .before .before .before .before .before .pre in
@@ -84,74 +69,58 @@ load-device-requires c κs =
     let h = b .4 .head (c .before .before .before .before .before .before .loop-test .taken) (c .before .before .before .before .if1 .left) in
     (h .1, b .4 .entries, b .4 .adapters, omega (arith, p .0, b .0), omega (arith, p .1, b .1), omega (arith, p .4, b .4 .places, h .1))
 
--- src/lib.rt:610:37
 enum-known-fault : tie.Need-enum-known-fault Inv-loop μ-loop
 enum-known-fault c = search needs
 
--- src/lib.rt:611:21
 same-length : tie.Need-same-length Inv-loop μ-loop
 same-length c = c .before .before .before .before .before .before .before .load-device .kept .1 .1 .1 .1 .0 ∙ c .before .before .before .before .before .before .before .before .before .before .before .before .before .before .before .loop .inv .0
 
--- src/lib.rt:611:21
 same-length-2 : tie.Need-same-length-2 Inv-loop μ-loop
 same-length-2 c = c .before .before .before .before .before .before .before .load-device .kept .1 .1 .1 .1 .1 .1 .0 ∙ c .before .before .before .before .before .before .before .before .before .before .before .before .before .before .before .loop .inv .1
 
--- src/lib.rt:611:21
 same-length-3 : tie.Need-same-length-3 Inv-loop μ-loop
 same-length-3 c = c .before .before .before .before .before .before .before .before .before .before .before .before .before .before .before .loop .inv .2
 
--- src/lib.rt:611:21
 same-length-4 : tie.Need-same-length-4 Inv-loop μ-loop
 same-length-4 c = c .before .before .before .before .before .before .before .before .before .before .before .before .before .before .before .loop .inv .3
 
--- src/lib.rt:611:21
 returns : tie.Need-returns Inv-loop μ-loop
 unfolding filledRows FilledWithin
 returns c = (filling-fault _ _ _ _ _ _ _ _ _ _ _ (c .before .before .before .before .before .before .before .before .before .before .before .before .before .before .before .loop .inv .4) (c .before .before .before .before .before .before .before .before .before .before .before .before .before .before .loop-test .taken) (c .before .before .before .before .before .before .before .before .before .before .before .before .if1 .left) _ _ _ (c .before .before .before .before .before .before .before .load-device .ensures .0) _ (c .before .fault .given .1), omega arith)
 
--- src/lib.rt:614:21
 enum-known-mark : tie.Need-enum-known-mark Inv-loop μ-loop
 enum-known-mark c = search needs
 
--- src/lib.rt:619:43
 mul-routes : tie.Need-mul-routes Inv-loop μ-loop
 mul-routes c = omega (arith, c .before .before .before .before .before .before .before .before .before .before .word-at2 .ok)
 
--- src/lib.rt:619:37
 add-routes : tie.Need-add-routes Inv-loop μ-loop
 add-routes c = omega (arith, c .before .before .before .before .before .before .before .before .before .before .before .word-at .ok, c .before .before .before .before .before .before .before .before .before .before .word-at2 .ok)
 
--- src/lib.rt:619:21
 mul-routes-2 : tie.Need-mul-routes-2 Inv-loop μ-loop
 mul-routes-2 c = omega (arith, c .before .before .before .before .before .before .before .before .before .before .before .before .before .before .before .before .before .before .before .before .before .before .before .pre .4, c .before .before .before .before .before .before .before .before .before .before .before .before .before .before .before .loop .inv .4 .places, c .before .before .before .before .before .before .before .before .before .before .before .before .before .before .loop-test .taken)
 
--- src/lib.rt:619:21
 slice-write-routes : tie.Need-slice-write-routes Inv-loop μ-loop
 slice-write-routes c =
     let b = c .before .before .before .before .before .before .before .before .before .before .before .before .before .before .before .loop .inv in
     omega (arith, c .before .before .before .before .before .before .before .before .before .before .before .before .before .before .before .before .before .before .before .before .before .before .before .pre .2, b .2, b .4 .places, b .4 .head (c .before .before .before .before .before .before .before .before .before .before .before .before .before .before .loop-test .taken) (c .before .before .before .before .before .before .before .before .before .before .before .before .if1 .left) .1)
 
--- src/lib.rt:620:21
 mul-marks : tie.Need-mul-marks Inv-loop μ-loop
 mul-marks c = omega (arith, c .before .before .before .before .before .before .before .before .before .before .before .before .before .before .before .before .before .before .before .before .before .before .before .pre .4, c .before .before .before .before .before .before .before .before .before .before .before .before .before .before .before .loop .inv .4 .places, c .before .before .before .before .before .before .before .before .before .before .before .before .before .before .loop-test .taken)
 
--- src/lib.rt:620:21
 slice-write-marks : tie.Need-slice-write-marks Inv-loop μ-loop
 slice-write-marks c =
     let b = c .before .before .before .before .before .before .before .before .before .before .before .before .before .before .before .loop .inv in
     omega (arith, c .before .before .before .before .before .before .before .before .before .before .before .before .before .before .before .before .before .before .before .before .before .before .before .pre .2, c .before .before .before .before .before .before .before .before .before .before .before .before .before .before .before .before .before .before .before .before .before .before .before .pre .3, b .3, b .4 .places, b .4 .head (c .before .before .before .before .before .before .before .before .before .before .before .before .before .before .loop-test .taken) (c .before .before .before .before .before .before .before .before .before .before .before .before .if1 .left) .1)
 
--- src/lib.rt:621:21
 add-place : tie.Need-add-place Inv-loop μ-loop
 add-place c = omega (arith, c .before .before .before .before .before .before .before .before .before .before .before .before .before .before .before .before .before .before .before .before .before .before .before .pre .4, c .before .before .before .before .before .before .before .before .before .before .before .before .before .before .before .loop .inv .4 .places, c .before .before .before .before .before .before .before .before .before .before .before .before .before .before .loop-test .taken)
 
--- src/lib.rt:603:5
 loop-less-2 : tie.Need-loop-less-2 Inv-loop μ-loop
 loop-less-2 c =
     let g = device-passed _ _ _ _ _ _ _ _ _ _ _ (c .before .before .before .before .before .before .before .before .before .before .before .before .before .before .before .loop .inv .4) (c .before .before .before .before .before .before .before .before .before .before .before .before .before .before .loop-test .taken) (c .before .before .before .before .before .before .before .before .before .before .before .before .if1 .left) _ _ _ (c .before .before .before .before .before .before .before .load-device .ensures .0) _ _ _ _ (c .before .mark .given .1) (c .before .before .before .before .before .before .before .load-device .ensures .1) in
     omega (arith, g .forward, c .before .before .before .before .before .before .before .before .before .before .before .before .before .before .loop-test .taken)
 
--- src/lib.rt:603:5
 loop-again-2 : tie.Need-loop-again-2 Inv-loop μ-loop
 loop-again-2 c =
     let b = c .before .before .before .before .before .before .before .before .before .before .before .before .before .before .before .loop .inv in
@@ -165,23 +134,18 @@ loop-again-2 c =
           (omega (arith, c .before .before .before .before .before .before .before .before .before .before .before .before .before .before .before .before .before .before .before .before .before .before .before .pre .2, b .2, b .4 .places, h)) (omega (arith, c .before .before .before .before .before .before .before .before .before .before .before .before .before .before .before .before .before .before .before .before .before .before .before .pre .2, c .before .before .before .before .before .before .before .before .before .before .before .before .before .before .before .before .before .before .before .before .before .before .before .pre .3, b .3, b .4 .places, h)),
     )
 
--- src/lib.rt:587:1
 same-length-5 : tie.Need-same-length-5 Inv-loop μ-loop
 same-length-5 c = c .before .loop .inv .0
 
--- src/lib.rt:587:1
 same-length-6 : tie.Need-same-length-6 Inv-loop μ-loop
 same-length-6 c = c .before .loop .inv .1
 
--- src/lib.rt:587:1
 same-length-7 : tie.Need-same-length-7 Inv-loop μ-loop
 same-length-7 c = c .before .loop .inv .2
 
--- src/lib.rt:587:1
 same-length-8 : tie.Need-same-length-8 Inv-loop μ-loop
 same-length-8 c = c .before .loop .inv .3
 
--- src/lib.rt:587:1
 returns-2 : tie.Need-returns-2 Inv-loop μ-loop
 returns-2 c =
     let p = c .before .before .before .before .before .before .before .before .before .pre in

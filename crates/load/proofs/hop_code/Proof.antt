@@ -3,35 +3,27 @@ use borrow.Author.Needs.{needs}
 use Rattle.load.proofs.hop_code.Statement.{statement}
 use Rattle.load.proofs.hop_code.Tie as tie
 
--- src/lib.rt:150:21
 enum-known-hop : tie.Need-enum-known-hop
 enum-known-hop c = search needs
 
--- src/lib.rt:150:27
 cast-result : tie.Need-cast-result
 cast-result c = search needs
 
--- src/lib.rt:150:27
 add-result : tie.Need-add-result
 add-result c = search needs
 
--- src/lib.rt:151:25
 enum-told : tie.Need-enum-told
 enum-told c = search needs
 
--- src/lib.rt:152:28
 enum-told-2 : tie.Need-enum-told-2
 enum-told-2 c = search needs
 
--- src/lib.rt:145:1
 returns : tie.Need-returns
 returns c = hop-told (c .before .before .before .args .hop) (c .before .hop .given .0 .0) (c .before .hop .given .1) (c .before .before .before .pre)
 
--- src/lib.rt:145:1
 returns-2 : tie.Need-returns-2
 returns-2 c = hop-none (c .before .before .args .hop) (c .enum-told .given .1)
 
--- src/lib.rt:145:1
 returns-3 : tie.Need-returns-3
 returns-3 c = hop-refused (c .before .before .args .hop) (c .enum-told2 .given .1)
 

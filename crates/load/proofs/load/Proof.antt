@@ -4,27 +4,21 @@ use borrow.Author.Needs.{needs}
 use Rattle.load.proofs.load.Statement.{statement}
 use Rattle.load.proofs.load.Tie as tie
 
--- src/lib.rt:681:9
 slice-aggregate-load-into : tie.Need-slice-aggregate-load-into
 slice-aggregate-load-into c = search needs
 
--- src/lib.rt:682:9
 slice-aggregate-load-into-2 : tie.Need-slice-aggregate-load-into-2
 slice-aggregate-load-into-2 c = search needs
 
--- src/lib.rt:683:9
 slice-aggregate-load-into-3 : tie.Need-slice-aggregate-load-into-3
 slice-aggregate-load-into-3 c = search needs
 
--- src/lib.rt:684:9
 slice-aggregate-load-into-4 : tie.Need-slice-aggregate-load-into-4
 slice-aggregate-load-into-4 c = search needs
 
--- src/lib.rt:678:9
 load-into-requires : tie.Need-load-into-requires
 load-into-requires c κs = search needs
 
--- src/lib.rt:670:1
 returns : tie.Need-returns
 returns c =
     let e = loaded-into _ ∙ c .before .before .before .before .load-into .ensures .0 in

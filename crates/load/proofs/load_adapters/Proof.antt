@@ -19,86 +19,67 @@ Inv-loop descriptions survey from usb4 place entries₀ n adapters₀ m count₀
 abbrev μ-loop : tie.MeasureT-loop
 μ-loop descriptions survey from usb4 place entries₀ n adapters₀ m count₀ size₀ i₀ entries adapters count size i = length survey - i
 
--- src/lib.rt:395:9
 next-head-requires : tie.Need-next-head-requires Inv-loop μ-loop
 next-head-requires c κs = tt
 
--- src/lib.rt:396:5
 loop-holds : tie.Need-loop-holds Inv-loop μ-loop
 loop-holds c =
     let p = c .before .before .before .before .before .pre in
     (refl, refl, adapting-start _ _ _ _ _ _ _ _ _ _ (p .0) (p .1) (p .2) (c .next-head .ensures))
 
--- src/lib.rt:397:12
 mul-if1 : tie.Need-mul-if1 Inv-loop μ-loop
 mul-if1 c = search needs
 
--- src/lib.rt:397:12
 shared-slice-read-if1 : tie.Need-shared-slice-read-if1 Inv-loop μ-loop
 shared-slice-read-if1 c = c .before .loop-test .taken
 
--- src/lib.rt:398:13
 same-length : tie.Need-same-length Inv-loop μ-loop
 same-length c = c .before .before .before .loop .inv .0
 
--- src/lib.rt:398:13
 same-length-2 : tie.Need-same-length-2 Inv-loop μ-loop
 same-length-2 c = c .before .before .before .loop .inv .1
 
--- src/lib.rt:398:13
 returns : tie.Need-returns Inv-loop μ-loop
 returns c = adapting-device _ _ _ _ _ _ _ _ _ _ _ (c .before .before .before .loop .inv .2) (c .before .before .loop-test .taken) (c .if1 .taken)
 
--- src/lib.rt:404:15
 load-adapter-requires : tie.Need-load-adapter-requires Inv-loop μ-loop
 load-adapter-requires c κs =
     let p = c .before .before .before .before .before .before .before .before .before .before .pre in
     let b = c .before .before .before .before .loop .inv in
     (c .before .before .before .loop-test .taken, b .2 .entries, omega (arith, p, b .0), p .5)
 
--- src/lib.rt:405:34
 enum-known-fault : tie.Need-enum-known-fault Inv-loop μ-loop
 enum-known-fault c = search needs
 
--- src/lib.rt:406:17
 same-length-3 : tie.Need-same-length-3 Inv-loop μ-loop
 same-length-3 c = c .before .before .before .before .before .load-adapter .kept .1 .1 .1 .1 .1 .0 ∙ c .before .before .before .before .before .before .before .before .before .before .loop .inv .0
 
--- src/lib.rt:406:17
 same-length-4 : tie.Need-same-length-4 Inv-loop μ-loop
 same-length-4 c = c .before .before .before .before .before .before .before .before .before .before .loop .inv .1
 
--- src/lib.rt:406:17
 returns-2 : tie.Need-returns-2 Inv-loop μ-loop
 returns-2 c = adapting-fault _ _ _ _ _ _ _ _ _ _ _ (c .before .before .before .before .before .before .before .before .before .before .loop .inv .2) (c .before .before .before .before .before .before .before .before .before .loop-test .taken) (c .before .before .before .before .before .before .before .if1 .left) _ _ (c .before .before .before .before .before .load-adapter .ensures .0) _ (c .before .fault .given .1) _
 
--- src/lib.rt:409:17
 enum-known-word : tie.Need-enum-known-word Inv-loop μ-loop
 enum-known-word c = search needs
 
--- src/lib.rt:413:17
 mul-adapters : tie.Need-mul-adapters Inv-loop μ-loop
 mul-adapters c = omega (arith, c .before .before .before .before .before .before .before .before .before .before .before .before .before .before .before .before .good, c .before .before .before .before .before .before .before .before .before .before .before .before .before .before .before .before .pre, c .before .before .before .before .before .before .before .before .before .before .loop .inv .1, c .before .before .before .before .before .before .before .before .before .before .loop .inv .2 .adapters, c .before .before .before .before .before .before .before .before .before .loop-test .taken)
 
--- src/lib.rt:413:17
 slice-write-adapters : tie.Need-slice-write-adapters Inv-loop μ-loop
 slice-write-adapters c = omega (arith, c .before .before .before .before .before .before .before .before .before .before .before .before .before .before .before .before .pre, c .before .before .before .before .before .before .before .before .before .before .loop .inv .1, c .before .before .before .before .before .before .before .before .before .before .loop .inv .2 .adapters, c .before .before .before .before .before .before .before .before .before .loop-test .taken)
 
--- src/lib.rt:414:17
 add-size : tie.Need-add-size Inv-loop μ-loop
 add-size c = omega (arith, c .before .before .before .before .before .before .before .before .before .before .before .before .before .before .before .before .good, c .before .before .before .before .before .before .before .before .before .before .before .before .before .before .before .before .pre, c .before .before .before .before .before .before .before .before .before .before .loop .inv .1, c .before .before .before .before .before .before .before .before .before .before .loop .inv .2 .adapters, c .before .before .before .before .before .before .before .before .before .loop-test .taken)
 
--- src/lib.rt:416:17
 next-head-requires-2 : tie.Need-next-head-requires-2 Inv-loop μ-loop
 next-head-requires-2 c κs = tt
 
--- src/lib.rt:396:5
 loop-less : tie.Need-loop-less Inv-loop μ-loop
 loop-less c =
     let g = adapter-passed _ _ _ _ _ _ _ _ _ _ _ (c .before .before .before .before .before .before .before .before .before .before .before .loop .inv .2) (c .before .before .before .before .before .before .before .before .before .before .loop-test .taken) (c .before .before .before .before .before .before .before .before .if1 .left) _ _ (c .before .before .before .before .before .before .load-adapter .ensures .0) _ _ _ (c .before .before .word .given .1) (c .before .before .before .before .before .before .load-adapter .ensures .1) in
     omega (arith, g .forward, next-past _ _ _ (c .next-head2 .ensures) (g .within), c .before .before .before .before .before .before .before .before .before .before .loop-test .taken)
 
--- src/lib.rt:396:5
 loop-again : tie.Need-loop-again Inv-loop μ-loop
 loop-again c =
     let b = c .before .before .before .before .before .before .before .before .before .before .before .loop .inv in (
@@ -107,15 +88,12 @@ loop-again c =
       adapting-next _ _ _ _ _ _ _ _ _ _ _ (b .2) (c .before .before .before .before .before .before .before .before .before .before .loop-test .taken) (c .before .before .before .before .before .before .before .before .if1 .left) _ _ (c .before .before .before .before .before .before .load-adapter .ensures .0) _ _ _ (c .before .before .word .given .1) (c .before .before .before .before .before .before .load-adapter .ensures .1) _ (omega (arith, c .before .before .before .before .before .before .before .before .before .before .before .before .before .before .before .before .before .pre, b .1, b .2 .adapters, c .before .before .before .before .before .before .before .before .before .before .loop-test .taken)) (c .next-head2 .ensures),
     )
 
--- src/lib.rt:378:1
 same-length-5 : tie.Need-same-length-5 Inv-loop μ-loop
 same-length-5 c = c .before .loop .inv .0
 
--- src/lib.rt:378:1
 same-length-6 : tie.Need-same-length-6 Inv-loop μ-loop
 same-length-6 c = c .before .loop .inv .1
 
--- src/lib.rt:378:1
 returns-3 : tie.Need-returns-3 Inv-loop μ-loop
 returns-3 c = adapting-past _ _ _ _ _ _ _ _ _ _ _ (c .before .loop .inv .2) (c .loop-test .left)
 

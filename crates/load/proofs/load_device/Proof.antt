@@ -11,40 +11,31 @@ use borrow.Author.Needs.{needs}
 use Rattle.load.proofs.load_device.Statement.{statement}
 use Rattle.load.proofs.load_device.Tie as tie
 
--- src/lib.rt:543:9
 word-at-requires : tie.Need-word-at-requires
 word-at-requires c κs = search needs
 
--- src/lib.rt:545:59
 add-next-register : tie.Need-add-next-register
 add-next-register c = search needs
 
--- src/lib.rt:545:28
 next-register-requires : tie.Need-next-register-requires
 next-register-requires c κs = search needs
 
--- src/lib.rt:546:13
 returns : tie.Need-returns
 unfolding deviceLoadRows itself adapterSite
 returns c = (device-few _ _ _ _ _ (registers-none _ _ _ (c .before .before .before .word-at .ensures) (c .before .before .if1 .taken) _ (c .before .next-register .ensures) (c .if2 .taken)), device-refused _ _ _)
 
--- src/lib.rt:549:9
 router-cs-1-requires : tie.Need-router-cs-1-requires
 router-cs-1-requires c κs = search needs
 
--- src/lib.rt:550:68
 add-fits-device : tie.Need-add-fits-device
 add-fits-device c = search needs
 
--- src/lib.rt:550:34
 fits-device-requires : tie.Need-fits-device-requires
 fits-device-requires c κs = search needs
 
--- src/lib.rt:550:25
 enum-known-fault : tie.Need-enum-known-fault
 enum-known-fault c = search needs
 
--- src/lib.rt:551:9
 returns-2 : tie.Need-returns-2
 unfolding deviceLoadRows fitOutcome
 returns-2 c =
@@ -56,47 +47,36 @@ returns-2 c =
 enum-told : tie.Need-enum-told
 enum-told c = search needs
 
--- src/lib.rt:554:9
 upstream-of-requires : tie.Need-upstream-of-requires
 upstream-of-requires c κs = search needs
 
--- src/lib.rt:558:33
 add-word-at : tie.Need-add-word-at
 add-word-at c = search needs
 
--- src/lib.rt:558:9
 word-at-requires-2 : tie.Need-word-at-requires-2
 word-at-requires-2 c κs = search needs
 
--- src/lib.rt:555:9
 mark-word-requires : tie.Need-mark-word-requires
 mark-word-requires c κs = search needs
 
--- src/lib.rt:564:9
 add-load-adapters : tie.Need-add-load-adapters
 add-load-adapters c = search needs
 
--- src/lib.rt:561:11
 load-adapters-requires : tie.Need-load-adapters-requires
 load-adapters-requires c κs = search needs
 
--- src/lib.rt:572:31
 enum-known-fault-2 : tie.Need-enum-known-fault-2
 enum-known-fault-2 c = search needs
 
--- src/lib.rt:574:22
 enum-known-e : tie.Need-enum-known-e
 enum-known-e c = search needs
 
--- src/lib.rt:529:1
 same-length : tie.Need-same-length
 same-length c = search needs
 
--- src/lib.rt:529:1
 same-length-2 : tie.Need-same-length-2
 same-length-2 c = search needs
 
--- src/lib.rt:529:1
 returns-3 : tie.Need-returns-3
 unfolding deviceLoadRows fitOutcome
 returns-3 c =
@@ -106,15 +86,12 @@ returns-3 c =
     let fit = fits-told (descriptionsOf (a .descriptions .now)) (a .survey .now) (a .place) (a .at) _ _ _ (c .before .before .before .before .before .before .before .before .before .before .before .before .before .before .before .fits-device .ensures) (c .before .before .before .before .before .before .before .before .before .before .before .before .before .before .before .before .router-cs-1 .ensures .0) (c .before .before .before .before .before .before .before .before .before .before .before .before .before .enum-told .given .1) in
     (device-fault (descriptionsOf (a .descriptions .now)) (a .place) (deviceAt (a .survey .now) (a .at)) _ _ some fit _ _ _ (adapters-told (descriptionsOf (a .descriptions .now)) (a .survey .now) (a .place) (a .at) _ _ _ (same-usb4 (a .survey .now) (a .at) _ e) (c .before .before .before .before .before .before .before .load-adapters .ensures .0)) _ (c .before .fault2 .given .1), device-refused _ _ _)
 
--- src/lib.rt:529:1
 same-length-3 : tie.Need-same-length-3
 same-length-3 c = search needs
 
--- src/lib.rt:529:1
 same-length-4 : tie.Need-same-length-4
 same-length-4 c = search needs
 
--- src/lib.rt:529:1
 returns-4 : tie.Need-returns-4
 unfolding deviceLoadRows fitOutcome
 returns-4 c =

@@ -7,30 +7,24 @@ use borrow.Author.Needs.{needs}
 use Rattle.load.proofs.load_into.Statement.{statement}
 use Rattle.load.proofs.load_into.Tie as tie
 
--- src/lib.rt:649:47
 check-requires : tie.Need-check-requires
 check-requires c κs = search needs
 
--- src/lib.rt:649:42
 enum-known-p : tie.Need-enum-known-p
 enum-known-p c = search needs
 
--- src/lib.rt:650:9
 returns : tie.Need-returns
 returns c = (into-descriptions _ _ _ _ _ _ _ (ap (λ x. description.checkedOutcome x) (sym (c .before .p .given .1)) ∙ c .before .before .before .check .ensures), within-refused _)
 
 enum-told : tie.Need-enum-told
 enum-told c = search needs
 
--- src/lib.rt:652:42
 check-requires-2 : tie.Need-check-requires-2
 check-requires-2 c κs = search needs
 
--- src/lib.rt:652:37
 enum-known-p-2 : tie.Need-enum-known-p-2
 enum-known-p-2 c = search needs
 
--- src/lib.rt:653:9
 returns-2 : tie.Need-returns-2
 unfolding description.checkedOutcome
 returns-2 c = (into-survey _ _ _ _ _ _ (ap (λ x. description.checkedOutcome x) (sym (c .before .before .before .before .enum-told .given .1)) ∙ c .before .before .before .before .before .before .check .ensures) _ (ap (λ x. survey.checkedOutcome x) (sym (c .before .p2 .given .1)) ∙ c .before .before .before .check2 .ensures), within-refused _)
@@ -38,7 +32,6 @@ returns-2 c = (into-survey _ _ _ _ _ _ (ap (λ x. description.checkedOutcome x) 
 enum-told-2 : tie.Need-enum-told-2
 enum-told-2 c = search needs
 
--- src/lib.rt:655:11
 fill-requires : tie.Need-fill-requires
 unfolding survey.checkedOutcome
 fill-requires c κs =
@@ -46,52 +39,40 @@ fill-requires c κs =
     let l = short _ (ap (λ x. survey.checkedOutcome x) (sym (c .before .before .before .before .enum-told2 .given .1)) ∙ c .before .before .before .before .before .before .check2 .ensures) in
     (omega (arith, p, l), omega (arith, p, l), omega (arith, p, l), omega (arith, p), omega (arith, l))
 
--- src/lib.rt:656:25
 enum-known-fault : tie.Need-enum-known-fault
 enum-known-fault c = search needs
 
--- src/lib.rt:658:22
 enum-known-e : tie.Need-enum-known-e
 enum-known-e c = search needs
 
--- src/lib.rt:637:1
 same-length : tie.Need-same-length
 same-length c = search needs
 
--- src/lib.rt:637:1
 same-length-2 : tie.Need-same-length-2
 same-length-2 c = search needs
 
--- src/lib.rt:637:1
 same-length-3 : tie.Need-same-length-3
 same-length-3 c = search needs
 
--- src/lib.rt:637:1
 same-length-4 : tie.Need-same-length-4
 same-length-4 c = search needs
 
--- src/lib.rt:637:1
 returns-3 : tie.Need-returns-3
 unfolding description.checkedOutcome survey.checkedOutcome
 returns-3 c = (into-fault _ _ _ _ _ _ (ap (λ x. description.checkedOutcome x) (sym (c .before .before .before .before .before .before .before .before .before .before .before .before .before .before .before .before .before .before .before .enum-told .given .1)) ∙ c .before .before .before .before .before .before .before .before .before .before .before .before .before .before .before .before .before .before .before .before .before .check .ensures) (ap (λ x. survey.checkedOutcome x) (sym (c .before .before .before .before .before .before .before .before .before .before .before .before .before .before .before .before .enum-told2 .given .1)) ∙ c .before .before .before .before .before .before .before .before .before .before .before .before .before .before .before .before .before .before .check2 .ensures) _ (c .before .before .before .before .before .before .before .before .before .before .before .fill .ensures .0) _ (c .before .fault .given .1), within-refused _)
 
--- src/lib.rt:637:1
 same-length-5 : tie.Need-same-length-5
 same-length-5 c = search needs
 
--- src/lib.rt:637:1
 same-length-6 : tie.Need-same-length-6
 same-length-6 c = search needs
 
--- src/lib.rt:637:1
 same-length-7 : tie.Need-same-length-7
 same-length-7 c = search needs
 
--- src/lib.rt:637:1
 same-length-8 : tie.Need-same-length-8
 same-length-8 c = search needs
 
--- src/lib.rt:637:1
 returns-4 : tie.Need-returns-4
 unfolding description.checkedOutcome survey.checkedOutcome
 returns-4 c =

@@ -4,39 +4,30 @@ use borrow.Author.Needs.{needs}
 use Rattle.load.proofs.mark_word.Statement.{statement}
 use Rattle.load.proofs.mark_word.Tie as tie
 
--- src/lib.rt:198:5
 bit-requires : tie.Need-bit-requires
 bit-requires c κs = search needs
 
--- src/lib.rt:198:5
 mul-result : tie.Need-mul-result
 mul-result c = search needs
 
--- src/lib.rt:199:11
 mul-result-2 : tie.Need-mul-result-2
 mul-result-2 c = search needs
 
--- src/lib.rt:198:5
 add-result : tie.Need-add-result
 add-result c = search needs
 
--- src/lib.rt:200:11
 upstream-code-requires : tie.Need-upstream-code-requires
 upstream-code-requires c κs = search needs
 
--- src/lib.rt:200:11
 mul-result-3 : tie.Need-mul-result-3
 mul-result-3 c = search needs
 
--- src/lib.rt:198:5
 add-result-2 : tie.Need-add-result-2
 add-result-2 c = search needs
 
--- src/lib.rt:198:5
 add-result-3 : tie.Need-add-result-3
 add-result-3 c = search needs
 
--- src/lib.rt:194:1
 returns : tie.Need-returns
 returns c = mark-word (c .before .before .args .kind) (c .before .before .args .domain) (c .before .bit .result) (c .upstream-code .result) (c .before .before .args .usb4) (c .before .before .args .upstream) (c .before .before .pre) (omega (arith, c .before .before .fits)) (c .before .bit .ensures) (c .upstream-code .ensures)
 

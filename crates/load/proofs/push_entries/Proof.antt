@@ -5,43 +5,33 @@ use borrow.Author.Needs.{needs}
 use Rattle.load.proofs.push_entries.Statement.{statement}
 use Rattle.load.proofs.push_entries.Tie as tie
 
--- src/lib.rt:307:32
 min-hop-requires : tie.Need-min-hop-requires
 min-hop-requires c κs = search needs
 
--- src/lib.rt:307:23
 enum-known-least : tie.Need-enum-known-least
 enum-known-least c = search needs
 
--- src/lib.rt:310:19
 enum-told : tie.Need-enum-told
 enum-told c = search needs
 
--- src/lib.rt:310:19
 add-t10 : tie.Need-add-t10
 add-t10 c = search needs
 
--- src/lib.rt:308:9
 returns : tie.Need-returns
 returns c = laws.no-least _ _ _ _ _ _ _ _ (c .before .before .min-hop .ensures) (c .enum-told .given .1) (omega (arith, c .before .before .before .before .before .before .pre .0)) (omega (arith, c .before .before .before .before .before .before .pre .1))
 
--- src/lib.rt:316:9
 add-push-from : tie.Need-add-push-from
 add-push-from c = search needs
 
--- src/lib.rt:317:9
 type-number-requires : tie.Need-type-number-requires
 type-number-requires c κs = search needs
 
--- src/lib.rt:313:5
 push-from-requires : tie.Need-push-from-requires
 push-from-requires c κs = (omega (arith, c .before .before .before .before .before .before .before .before .before .pre .0), omega (arith, c .before .before .before .before .before .before .before .before .before .pre .1), c .before .before .before .before .before .before .before .before .before .pre .2, c .before .before .before .before .before .before .before .before .before .pre .3, laws.least-fits (c .before .before .before .before .before .before .before .before .before .args .kind) _ (c .before .before .before .before .before .min-hop .ensures) _ (c .before .before .before .least .given .1))
 
--- src/lib.rt:294:1
 same-length : tie.Need-same-length
 same-length c = search needs
 
--- src/lib.rt:294:1
 returns-2 : tie.Need-returns-2
 returns-2 c = (laws.by-least _ _ _ _ (now (c .before .before .before .before .before .before .before .before .before .before .before .before .args .entries)) _ (c .before .before .before .before .before .before .before .before .before .before .before .before .args .n) _ (c .before .before .before .before .before .before .before .before .min-hop .ensures) _ (c .before .before .before .before .before .before .least .given .1) _ (c .before .before .before .before .type-number .ensures) _ (c .before .before .push-from .ensures .0), c .before .before .push-from .ensures .1)
 

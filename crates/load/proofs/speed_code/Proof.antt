@@ -3,27 +3,21 @@ use borrow.Author.Needs.{needs}
 use Rattle.load.proofs.speed_code.Statement.{statement}
 use Rattle.load.proofs.speed_code.Tie as tie
 
--- src/lib.rt:139:27
 enum-known-speed : tie.Need-enum-known-speed
 enum-known-speed c = search needs
 
--- src/lib.rt:139:33
 speed-number-requires : tie.Need-speed-number-requires
 speed-number-requires c κs = search needs
 
--- src/lib.rt:139:33
 cast-result : tie.Need-cast-result
 cast-result c = search needs
 
--- src/lib.rt:140:32
 enum-told : tie.Need-enum-told
 enum-told c = search needs
 
--- src/lib.rt:135:1
 returns : tie.Need-returns
 returns c = speed-told (c .before .before .before .before .args .speed) (c .before .before .speed .given .0 .0) (c .speed-number .result) (c .before .before .speed .given .1) (c .speed-number .ensures)
 
--- src/lib.rt:135:1
 returns-2 : tie.Need-returns-2
 returns-2 c = speed-refused (c .before .before .args .speed) (c .enum-told .given .1)
 

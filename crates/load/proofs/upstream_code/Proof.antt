@@ -4,35 +4,27 @@ use borrow.Author.Needs.{needs}
 use Rattle.load.proofs.upstream_code.Statement.{statement}
 use Rattle.load.proofs.upstream_code.Tie as tie
 
--- src/lib.rt:187:27
 enum-known-upstream : tie.Need-enum-known-upstream
 enum-known-upstream c = search needs
 
--- src/lib.rt:187:33
 cast-result : tie.Need-cast-result
 cast-result c = search needs
 
--- src/lib.rt:187:33
 add-result : tie.Need-add-result
 add-result c = search needs
 
--- src/lib.rt:188:27
 enum-told : tie.Need-enum-told
 enum-told c = search needs
 
--- src/lib.rt:189:30
 enum-told-2 : tie.Need-enum-told-2
 enum-told-2 c = search needs
 
--- src/lib.rt:183:1
 returns : tie.Need-returns
 returns c = upstream-told (c .before .before .before .args .upstream) (c .before .upstream .given .0 .0) (c .before .upstream .given .1) (omega (arith, c .known-told))
 
--- src/lib.rt:183:1
 returns-2 : tie.Need-returns-2
 returns-2 c = upstream-none (c .before .before .args .upstream) (c .enum-told .given .1)
 
--- src/lib.rt:183:1
 returns-3 : tie.Need-returns-3
 returns-3 c = upstream-refused (c .before .before .args .upstream) (c .enum-told2 .given .1)
 

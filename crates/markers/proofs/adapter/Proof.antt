@@ -7,54 +7,43 @@ use borrow.Author.Needs.{needs}
 use Rattle.markers.proofs.adapter.Statement.{statement}
 use Rattle.markers.proofs.adapter.Tie as tie
 
--- src/lib.rt:64:20
 slice-aggregate-is-text : tie.Need-slice-aggregate-is-text
 slice-aggregate-is-text c = search needs
 
--- src/lib.rt:64:9
 is-text-requires : tie.Need-is-text-requires
 is-text-requires c κs = search needs
 
--- src/lib.rt:65:9
 returns : tie.Need-returns
 unfolding bytesOf markerBy
 returns c = laws.no-adapter _ _ (sym (c .before .is-text .ensures) ∙ not-true _ (c .if1 .taken))
 
--- src/lib.rt:67:33
 parse-decimal-requires : tie.Need-parse-decimal-requires
 parse-decimal-requires c κs = search needs
 
--- src/lib.rt:67:23
 enum-known-number : tie.Need-enum-known-number
 enum-known-number c = search needs
 
--- src/lib.rt:68:9
 enum-told : tie.Need-enum-told
 enum-told c = search needs
 
--- src/lib.rt:68:9
 returns-2 : tie.Need-returns-2
 unfolding bytesOf markerBy
 returns-2 c = let i = c .before .before .before in
     laws.adapter-none _ _ (sym (i .before .is-text .ensures) ∙ not-false _ (i .if1 .left)) (sym (c .before .before .parse-decimal .ensures) ∙ c .enum-told .given .1)
 
--- src/lib.rt:71:9
 returns-3 : tie.Need-returns-3
 unfolding bytesOf markerBy
 returns-3 c = let k = c .before .before in let i = k .before .before .before in
     laws.adapter-zero _ _ (sym (i .before .is-text .ensures) ∙ not-false _ (i .if1 .left)) _ (sym (k .before .before .parse-decimal .ensures) ∙ k .number .given .1) (c .if2 .taken)
 
--- src/lib.rt:74:9
 returns-4 : tie.Need-returns-4
 unfolding bytesOf markerBy
 returns-4 c = let k = c .before .before .before in let i = k .before .before .before in
     laws.adapter-large _ _ (sym (i .before .is-text .ensures) ∙ not-false _ (i .if1 .left)) _ (sym (k .before .before .parse-decimal .ensures) ∙ k .number .given .1) (c .before .if2 .left) (c .if3 .taken)
 
--- src/lib.rt:76:19
 cast-t10 : tie.Need-cast-t10
 cast-t10 c = search needs
 
--- src/lib.rt:61:1
 returns-5 : tie.Need-returns-5
 unfolding bytesOf markerBy
 returns-5 c = let k = c .before .before .before in let i = k .before .before .before in

@@ -6,75 +6,59 @@ use borrow.Author.Needs.{needs}
 use Rattle.markers.proofs.device.Statement.{statement}
 use Rattle.markers.proofs.device.Tie as tie
 
--- src/lib.rt:83:33
 parse-decimal-requires : tie.Need-parse-decimal-requires
 parse-decimal-requires c κs = search needs
 
--- src/lib.rt:83:23
 enum-known-domain : tie.Need-enum-known-domain
 enum-known-domain c = search needs
 
--- src/lib.rt:84:9
 enum-told : tie.Need-enum-told
 enum-told c = search needs
 
--- src/lib.rt:84:9
 returns : tie.Need-returns
 unfolding bytesOf markerBy
 returns c = laws.domain-none _ _ _ (sym (c .before .before .parse-decimal .ensures) ∙ c .enum-told .given .1)
 
--- src/lib.rt:86:32
 parse-hex-requires : tie.Need-parse-hex-requires
 parse-hex-requires c κs = search needs
 
--- src/lib.rt:86:23
 enum-known-route : tie.Need-enum-known-route
 enum-known-route c = search needs
 
--- src/lib.rt:87:9
 enum-told-2 : tie.Need-enum-told-2
 enum-told-2 c = search needs
 
--- src/lib.rt:87:9
 returns-2 : tie.Need-returns-2
 unfolding bytesOf markerBy
 returns-2 c = let d = c .before .before .before .before in
     laws.route-none _ _ _ _ (sym (d .before .before .parse-decimal .ensures) ∙ d .domain .given .1) (sym (c .before .before .parse-hex .ensures) ∙ c .enum-told2 .given .1)
 
--- src/lib.rt:89:18
 cast-domain : tie.Need-cast-domain
 cast-domain c = let d = c .before .before .before .before .before in
     record { fits = laws.domain-fits _ _ (sym (d .before .before .parse-decimal .ensures) ∙ d .domain .given .1) }
 
--- src/lib.rt:90:19
 slice-aggregate-is-text : tie.Need-slice-aggregate-is-text
 slice-aggregate-is-text c = search needs
 
--- src/lib.rt:90:8
 is-text-requires : tie.Need-is-text-requires
 is-text-requires c κs = search needs
 
--- src/lib.rt:91:9
 returns-3 : tie.Need-returns-3
 unfolding bytesOf markerBy
 returns-3 c = let r = c .before .before .before .before in let d = r .before .before .before .before in
     laws.is-router _ _ _ _ (sym (d .before .before .parse-decimal .ensures) ∙ d .domain .given .1) _ (sym (r .before .before .parse-hex .ensures) ∙ r .route .given .1) (sym (c .before .is-text .ensures) ∙ c .if1 .taken)
 
--- src/lib.rt:93:19
 slice-aggregate-is-text-2 : tie.Need-slice-aggregate-is-text-2
 slice-aggregate-is-text-2 c = search needs
 
--- src/lib.rt:93:8
 is-text-requires-2 : tie.Need-is-text-requires-2
 is-text-requires-2 c κs = search needs
 
--- src/lib.rt:94:9
 returns-4 : tie.Need-returns-4
 unfolding bytesOf markerBy
 returns-4 c = let i = c .before .before .before in let r = c .before .before .before .before .before .before .before in let d = r .before .before .before .before in
     laws.is-xdomain _ _ _ _ (sym (d .before .before .parse-decimal .ensures) ∙ d .domain .given .1) _ (sym (r .before .before .parse-hex .ensures) ∙ r .route .given .1) (sym (i .before .is-text .ensures) ∙ i .if1 .left) (sym (c .before .is-text2 .ensures) ∙ c .if2 .taken)
 
--- src/lib.rt:80:1
 returns-5 : tie.Need-returns-5
 unfolding bytesOf markerBy
 returns-5 c = let i = c .before .before .before in let r = c .before .before .before .before .before .before .before in let d = r .before .before .before .before in

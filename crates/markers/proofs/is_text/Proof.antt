@@ -14,41 +14,32 @@ Inv-loop a b i₀ i = (length a ≡ length b) × (same a b ≡ same (drop i a) (
 abbrev μ-loop : tie.MeasureT-loop
 μ-loop a b i₀ i = length a - i
 
--- src/lib.rt:29:9
 returns : tie.Need-returns Inv-loop μ-loop
 returns c = sym (laws.same-long _ _ (c .if1 .taken))
 
--- src/lib.rt:32:5
 loop-holds : tie.Need-loop-holds Inv-loop μ-loop
 loop-holds c = (c .if1 .left, refl)
 
--- src/lib.rt:33:12
 shared-slice-read-if2 : tie.Need-shared-slice-read-if2 Inv-loop μ-loop
 shared-slice-read-if2 c = search needs
 
--- src/lib.rt:33:20
 shared-slice-read-if2-2 : tie.Need-shared-slice-read-if2-2 Inv-loop μ-loop
 shared-slice-read-if2-2 c = search needs
 
--- src/lib.rt:34:13
 returns-2 : tie.Need-returns-2 Inv-loop μ-loop
 returns-2 c = let h = c .before .before .before .before .loop .inv in
     sym (laws.same-other _ _ _ (h .1) (omega arith) (omega arith) (c .if2 .taken))
 
--- src/lib.rt:36:9
 add-i : tie.Need-add-i Inv-loop μ-loop
 add-i c = search needs
 
--- src/lib.rt:32:5
 loop-less : tie.Need-loop-less Inv-loop μ-loop
 loop-less c = search needs
 
--- src/lib.rt:32:5
 loop-again : tie.Need-loop-again Inv-loop μ-loop
 loop-again c = let h = c .before .before .before .before .loop .inv in
     (h .0, laws.same-more _ _ _ (h .1) (omega arith) (omega arith) (c .if2 .left))
 
--- src/lib.rt:25:1
 returns-3 : tie.Need-returns-3 Inv-loop μ-loop
 returns-3 c = let h = c .before .loop .inv in
     sym (laws.same-all _ _ _ (h .1) (c .loop-test .left) (omega arith))

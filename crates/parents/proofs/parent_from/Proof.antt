@@ -12,85 +12,65 @@ use borrow.Author.Needs.{needs}
 use Rattle.parents.proofs.parent_from.Statement.{statement}
 use Rattle.parents.proofs.parent_from.Tie as tie
 
--- src/lib.rt:319:9
 load-requires : tie.Need-load-requires
 load-requires c κs = search needs
 
--- src/lib.rt:322:29
 enum-known-answer : tie.Need-enum-known-answer
 enum-known-answer c = search needs
 
--- src/lib.rt:325:13
 enum-known-answer-2 : tie.Need-enum-known-answer-2
 enum-known-answer-2 c = search needs
 
--- src/lib.rt:331:17
 array-share-prefix-routes : tie.Need-array-share-prefix-routes
 array-share-prefix-routes c = held _ _ _ _ _ (c .before .before .before .before .before .load .ok) (c .before .before .before .answer2 .given .1) (c .before .before .before .before .before .load .ensures .1) .routes
 
--- src/lib.rt:331:17
 slice-aggregate-find-device : tie.Need-slice-aggregate-find-device
 slice-aggregate-find-device c = sym (length-take-le _ _ (held _ _ _ _ _ (c .before .before .before .before .before .before .load .ok) (c .before .before .before .before .answer2 .given .1) (c .before .before .before .before .before .before .load .ensures .1) .routes))
 
--- src/lib.rt:332:17
 array-share-prefix-marks : tie.Need-array-share-prefix-marks
 array-share-prefix-marks c = held _ _ _ _ _ (c .before .before .before .before .before .before .load .ok) (c .before .before .before .before .answer2 .given .1) (c .before .before .before .before .before .before .load .ensures .1) .marks
 
--- src/lib.rt:332:17
 slice-aggregate-find-device-2 : tie.Need-slice-aggregate-find-device-2
 slice-aggregate-find-device-2 c = sym (length-take-le _ _ (held _ _ _ _ _ (c .before .before .before .before .before .before .before .load .ok) (c .before .before .before .before .before .answer2 .given .1) (c .before .before .before .before .before .before .before .load .ensures .1) .marks))
 
--- src/lib.rt:330:42
 find-device-requires : tie.Need-find-device-requires
 find-device-requires c κs = search needs
 
--- src/lib.rt:330:37
 enum-known-d : tie.Need-enum-known-d
 enum-known-d c = search needs
 
--- src/lib.rt:335:46
 enum-told : tie.Need-enum-told
 enum-told c = search needs
 
--- src/lib.rt:335:17
 returns : tie.Need-returns
 unfolding parentOutcome parentAnswer refusedBy present bind deviceFound
 returns c = asked _ _ _ _ _ _ _ (λ x d. parentOf x (c .before .before .before .before .before .before .before .before .before .before .before .before .before .args .place) d) none (c .before .before .before .before .before .before .before .before .before .before .load .ensures .0) (c .before .before .before .before .before .before .before .before .answer2 .given .1) (sym (ap (deviceFound _) (c .enum-told .given .1)) ∙ c .before .before .find-device .ensures)
 
--- src/lib.rt:339:17
 array-share-prefix-routes-2 : tie.Need-array-share-prefix-routes-2
 array-share-prefix-routes-2 c = held _ _ _ _ _ (c .before .before .before .before .before .before .before .before .before .before .before .before .load .ok) (c .before .before .before .before .before .before .before .before .before .before .answer2 .given .1) (c .before .before .before .before .before .before .before .before .before .before .before .before .load .ensures .1) .routes
 
--- src/lib.rt:339:17
 slice-aggregate-parent-of : tie.Need-slice-aggregate-parent-of
 slice-aggregate-parent-of c = sym (length-take-le _ _ (held _ _ _ _ _ (c .before .before .before .before .before .before .before .before .before .before .before .before .before .load .ok) (c .before .before .before .before .before .before .before .before .before .before .before .answer2 .given .1) (c .before .before .before .before .before .before .before .before .before .before .before .before .before .load .ensures .1) .routes))
 
--- src/lib.rt:340:17
 array-share-prefix-marks-2 : tie.Need-array-share-prefix-marks-2
 array-share-prefix-marks-2 c = held _ _ _ _ _ (c .before .before .before .before .before .before .before .before .before .before .before .before .before .load .ok) (c .before .before .before .before .before .before .before .before .before .before .before .answer2 .given .1) (c .before .before .before .before .before .before .before .before .before .before .before .before .before .load .ensures .1) .marks
 
--- src/lib.rt:340:17
 slice-aggregate-parent-of-2 : tie.Need-slice-aggregate-parent-of-2
 slice-aggregate-parent-of-2 c = sym (length-take-le _ _ (held _ _ _ _ _ (c .before .before .before .before .before .before .before .before .before .before .before .before .before .before .load .ok) (c .before .before .before .before .before .before .before .before .before .before .before .before .answer2 .given .1) (c .before .before .before .before .before .before .before .before .before .before .before .before .before .before .load .ensures .1) .marks))
 
--- src/lib.rt:341:17
 array-share-prefix-table : tie.Need-array-share-prefix-table
 array-share-prefix-table c = held _ _ _ _ _ (c .before .before .before .before .before .before .before .before .before .before .before .before .before .before .load .ok) (c .before .before .before .before .before .before .before .before .before .before .before .before .answer2 .given .1) (c .before .before .before .before .before .before .before .before .before .before .before .before .before .before .load .ensures .1) .adapters
 
--- src/lib.rt:341:17
 slice-aggregate-parent-of-3 : tie.Need-slice-aggregate-parent-of-3
 slice-aggregate-parent-of-3 c = sym (length-take-le _ _ (held _ _ _ _ _ (c .before .before .before .before .before .before .before .before .before .before .before .before .before .before .before .load .ok) (c .before .before .before .before .before .before .before .before .before .before .before .before .before .answer2 .given .1) (c .before .before .before .before .before .before .before .before .before .before .before .before .before .before .before .load .ensures .1) .adapters))
 
--- src/lib.rt:338:13
 parent-of-requires : tie.Need-parent-of-requires
 parent-of-requires c κs = search needs
 
--- src/lib.rt:316:1
 returns-2 : tie.Need-returns-2
 unfolding parentOutcome parentAnswer
 returns-2 c = load-refused _ _ _ (c .before .before .before .load .ensures .0) _ _ (c .before .answer .given .1)
 
--- src/lib.rt:316:1
 returns-3 : tie.Need-returns-3
 unfolding deviceFound
 returns-3 c = parent-asked _ _ _ _ _ _ _ _ _ (c .before .before .before .before .before .before .before .before .before .before .before .before .before .before .before .before .load .ensures .0) (c .before .before .before .before .before .before .before .before .before .before .before .before .before .before .answer2 .given .1) (c .before .before .before .before .before .before .before .before .before .before .before .before .before .before .before .before .load .ensures .1) (sym (ap (deviceFound _) (c .before .before .before .before .before .before .d .given .1)) ∙ c .before .before .before .before .before .before .before .before .find-device .ensures) (c .parent-of .ensures)

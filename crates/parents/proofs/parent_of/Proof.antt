@@ -7,29 +7,23 @@ use borrow.Author.Needs.{needs}
 use Rattle.parents.proofs.parent_of.Statement.{statement}
 use Rattle.parents.proofs.parent_of.Tie as tie
 
--- src/lib.rt:305:9
 kind-number-requires : tie.Need-kind-number-requires
 kind-number-requires c κs = search needs
 
--- src/lib.rt:307:9
 router-parent-requires : tie.Need-router-parent-requires
 router-parent-requires c κs = search needs
 
--- src/lib.rt:307:9
 returns : tie.Need-returns
 unfolding deviceRow
 returns c = record { is = λ k l es. c .router-parent .ensures .is k l es ∙ of-router _ _ _ _ (c .before .before .kind-number .ensures) (c .before .if1 .taken) }
 
--- src/lib.rt:310:9
 xdomain-parent-requires : tie.Need-xdomain-parent-requires
 xdomain-parent-requires c κs = search needs
 
--- src/lib.rt:310:9
 returns-2 : tie.Need-returns-2
 unfolding deviceRow
 returns-2 c = record { is = λ k l es. c .xdomain-parent .ensures (now (c .before .before .before .before .before .before .before .args .adapters)) es ∙ of-xdomain _ _ _ _ (c .before .before .before .kind-number .ensures) (c .before .if2 .taken) }
 
--- src/lib.rt:294:1
 returns-3 : tie.Need-returns-3
 unfolding deviceRow parentOutcome
 returns-3 c = record { is = λ k l es. of-other _ _ _ _ (c .before .before .kind-number .ensures) (c .before .if1 .left) (c .if2 .left) }

@@ -6,24 +6,19 @@ use borrow.Author.Needs.{needs}
 use Rattle.parents.proofs.router_at.Statement.{statement}
 use Rattle.parents.proofs.router_at.Tie as tie
 
--- src/lib.rt:243:33
 find-router-requires : tie.Need-find-router-requires
 find-router-requires c κs = search needs
 
--- src/lib.rt:243:28
 enum-known-p : tie.Need-enum-known-p
 enum-known-p c = search needs
 
--- src/lib.rt:244:9
 enum-told : tie.Need-enum-told
 enum-told c = search needs
 
--- src/lib.rt:244:9
 returns : tie.Need-returns
 unfolding parentOutcome routerFound
 returns c = ap value (sym (ap routerFound (c .enum-told .given .1)) ∙ c .before .before .find-router .ensures)
 
--- src/lib.rt:240:1
 returns-2 : tie.Need-returns-2
 unfolding parentOutcome routerFound
 returns-2 c = ap value (sym (ap routerFound (c .before .p .given .1)) ∙ c .before .before .before .find-router .ensures)

@@ -12,28 +12,22 @@ use borrow.Author.Needs.{needs}
 use Rattle.parents.proofs.xdomain_parent.Statement.{statement}
 use Rattle.parents.proofs.xdomain_parent.Tie as tie
 
--- src/lib.rt:284:32
 upstream-route-requires : tie.Need-upstream-route-requires
 upstream-route-requires c κs = search needs
 
--- src/lib.rt:284:27
 enum-known-r : tie.Need-enum-known-r
 enum-known-r c = search needs
 
--- src/lib.rt:285:74
 enum-told : tie.Need-enum-told
 enum-told c = search needs
 
--- src/lib.rt:285:9
 returns : tie.Need-returns
 unfolding parentOutcome deviceRow refusedBy refusalOf routeOr adapterSite bind
 returns c = λ ad es. xdomain-by _ _ _ _ (sym (c .before .before .upstream-route .ensures) ∙ c .enum-told .given .1)
 
--- src/lib.rt:290:5
 router-at-requires : tie.Need-router-at-requires
 router-at-requires c κs = search needs
 
--- src/lib.rt:281:1
 returns-2 : tie.Need-returns-2
 unfolding rowsWith deviceRow routeOr bind routerAt
 returns-2 c = λ ad es. c .router-at .ensures ∙ xdomain-by (rowsWith es ad _ _) _ _ _ (sym (c .before .before .before .before .upstream-route .ensures) ∙ c .before .before .r .given .1)

@@ -16,53 +16,41 @@ Inv-loop survey place at₀ k₀ at k = (k ≤ place) × (drop k (deviceHeads su
 abbrev μ-loop : tie.MeasureT-loop
 μ-loop survey place at₀ k₀ at k = place - k
 
--- src/lib.rt:220:9
 next-device-requires : tie.Need-next-device-requires Inv-loop μ-loop
 next-device-requires c κs = omega arith
 
--- src/lib.rt:222:5
 loop-holds : tie.Need-loop-holds Inv-loop μ-loop
 unfolding deviceHeads
 loop-holds c = let n = c .next-device .ensures in (omega arith, n .same, n .head, n .room)
 
--- src/lib.rt:224:13
 returns : tie.Need-returns Inv-loop μ-loop
 returns c = no-group (now (c .before .before .before .before .before .args .survey)) (c .before .before .loop .k) (c .before .before .loop .at) (c .before .before .loop .inv .1) (c .before .before .before .before .before .args .place) (c .before .before .loop .inv .0) (c .if1 .taken)
 
--- src/lib.rt:226:34
 add-next-device : tie.Need-add-next-device Inv-loop μ-loop
 add-next-device c = omega (arith, c .before .before .before .before .before .good, c .if1 .left)
 
--- src/lib.rt:226:9
 next-device-requires-2 : tie.Need-next-device-requires-2 Inv-loop μ-loop
 next-device-requires-2 c κs = c .before .before .loop .inv .3 (c .if1 .left)
 
--- src/lib.rt:227:9
 add-k : tie.Need-add-k Inv-loop μ-loop
 add-k c = omega arith
 
--- src/lib.rt:222:5
 loop-less : tie.Need-loop-less Inv-loop μ-loop
 loop-less c = omega arith
 
--- src/lib.rt:222:5
 loop-again : tie.Need-loop-again Inv-loop μ-loop
 loop-again c = let n = c .next-device2 .ensures in
     (omega arith, next-group (now (c .before .before .before .before .before .before .args .survey)) (c .before .before .before .loop .k) (c .before .before .before .loop .at) (c .before .before .before .loop .inv .1) (c .before .before .before .loop .inv .2 (c .before .if1 .left)) ∙ n .same, n .head, n .room)
 
--- src/lib.rt:230:9
 returns-2 : tie.Need-returns-2 Inv-loop μ-loop
 returns-2 c = no-group (now (c .before .before .before .before .before .args .survey)) (c .before .before .loop .k) (c .before .before .loop .at) (c .before .before .loop .inv .1) (c .before .before .before .before .before .args .place) (c .before .before .loop .inv .0) (c .if2 .taken)
 
--- src/lib.rt:232:43
 add-next-device-2 : tie.Need-add-next-device-2 Inv-loop μ-loop
 add-next-device-2 c = omega (arith, c .before .before .before .before .before .good, c .if2 .left)
 
--- src/lib.rt:232:23
 next-device-requires-3 : tie.Need-next-device-requires-3 Inv-loop μ-loop
 next-device-requires-3 c κs = c .before .before .loop .inv .3 (c .if2 .left)
 
--- src/lib.rt:217:1
 returns-3 : tie.Need-returns-3 Inv-loop μ-loop
 returns-3 c = let e : c .before .before .before .loop .k ≡ c .before .before .before .before .before .before .args .place = omega arith in
     this-group (now (c .before .before .before .before .before .before .args .survey)) (c .before .before .before .loop .k) (c .before .before .before .loop .at) (c .before .before .before .loop .inv .1) (c .before .before .before .loop .inv .2 (c .before .if2 .left)) (c .next-device3 .result) (c .next-device3 .ensures) ∙ ap (λ p. groupAt (now (c .before .before .before .before .before .before .args .survey)) p) e

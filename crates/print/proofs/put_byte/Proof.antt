@@ -15,27 +15,21 @@ use Rattle.print.proofs.put_byte.Lts as lts
 stored : (c : lts.Joined1 reads.Pre reads.Post) → c .if1 .out ≡ set (now (c .before .args .out)) (c .before .args .at) (c .before .args .b)
 stored c = ⊎-elim (λ w. w .1) (λ w. w .1 ∙ sym (set-out _ _ _ (w .0 .left))) (c .if1 .came)
 
--- src/lib.rt:10:9
 slice-write-out : tie.Need-slice-write-out
 slice-write-out c = search needs
 
--- src/lib.rt:13:16
 add-result : tie.Need-add-result
 add-result c = search needs
 
--- src/lib.rt:13:9
 same-length : tie.Need-same-length
 same-length c = ap length (stored (c .before)) ∙ simp length-set
 
--- src/lib.rt:13:9
 returns : tie.Need-returns
 returns c = rw (stored (c .before)) (byte-in _ _ _ (c .if2 .taken))
 
--- src/lib.rt:6:1
 same-length-2 : tie.Need-same-length-2
 same-length-2 c = ap length (stored (c .before)) ∙ simp length-set
 
--- src/lib.rt:6:1
 returns-2 : tie.Need-returns-2
 returns-2 c = rw (stored (c .before)) (byte-at-most _ _ _ (omega arith))
 

@@ -13,36 +13,28 @@ Inv-loop out₀ at text next₀ i₀ out next i = (i ≤ length text) × (Puts o
 abbrev μ-loop : tie.MeasureT-loop
 μ-loop out₀ at text next₀ i₀ out next i = length text - i
 
--- src/lib.rt:24:5
 loop-holds : tie.Need-loop-holds Inv-loop μ-loop
 loop-holds c = (omega arith, nothing _ _ (omega arith))
 
--- src/lib.rt:25:36
 shared-slice-read-put-byte : tie.Need-shared-slice-read-put-byte Inv-loop μ-loop
 shared-slice-read-put-byte c = omega arith
 
--- src/lib.rt:25:9
 put-byte-requires : tie.Need-put-byte-requires Inv-loop μ-loop
 put-byte-requires c κs = tt
 
--- src/lib.rt:26:9
 add-i : tie.Need-add-i Inv-loop μ-loop
 add-i c = omega arith
 
--- src/lib.rt:24:5
 loop-less : tie.Need-loop-less Inv-loop μ-loop
 loop-less c = omega arith
 
--- src/lib.rt:24:5
 loop-again : tie.Need-loop-again Inv-loop μ-loop
 loop-again c = let l = c .before .before .before .before .before .before in
     (omega arith, then-byte (now (c .before .before .before .before .before .before .before .before .before .args .text)) (l .loop .i) (omega arith) (omega arith) (l .loop .inv .1) (c .before .before .put-byte .ensures))
 
--- src/lib.rt:19:1
 same-length : tie.Need-same-length Inv-loop μ-loop
 same-length c = same-long (c .before .loop .inv .1)
 
--- src/lib.rt:19:1
 returns : tie.Need-returns Inv-loop μ-loop
 returns c = all-bytes (now (c .before .before .before .before .args .text)) (c .before .loop .i) (omega arith) (c .before .loop .inv .1)
 

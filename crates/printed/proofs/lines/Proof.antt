@@ -3,31 +3,24 @@ use borrow.Author.Needs.{needs}
 use Rattle.printed.proofs.lines.Statement.{statement}
 use Rattle.printed.proofs.lines.Tie as tie
 
--- src/lib.rt:52:33
 slice-aggregate-put-lines : tie.Need-slice-aggregate-put-lines
 slice-aggregate-put-lines c = search needs
 
--- src/lib.rt:52:9
 put-lines-requires : tie.Need-put-lines-requires
 put-lines-requires c κs = search needs
 
--- src/lib.rt:54:9
 returns : tie.Need-returns
 returns c = too-long (c .before .before .put-lines .ensures) _ (c .if1 .taken)
 
--- src/lib.rt:57:9
 returns-2 : tie.Need-returns-2
 returns-2 c = no-room (c .before .before .before .put-lines .ensures) _ (c .before .if1 .left) (c .if2 .taken)
 
--- src/lib.rt:59:5
 put-lines-requires-2 : tie.Need-put-lines-requires-2
 put-lines-requires-2 c κs = search needs
 
--- src/lib.rt:48:1
 same-length : tie.Need-same-length
 same-length c = search needs
 
--- src/lib.rt:48:1
 returns-3 : tie.Need-returns-3
 returns-3 c = room (c .before .before .before .before .before .before .before .put-lines .ensures) (c .before .before .before .before .before .if1 .left) (c .before .before .before .before .if2 .left) (c .before .before .put-lines2 .ensures)
 

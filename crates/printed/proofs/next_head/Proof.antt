@@ -5,39 +5,30 @@ use borrow.Author.Needs.{needs}
 use Rattle.printed.proofs.next_head.Statement.{statement}
 use Rattle.printed.proofs.next_head.Tie as tie
 
--- src/lib.rt:25:8
 mul-if1 : tie.Need-mul-if1
 mul-if1 c = search needs
 
--- src/lib.rt:25:8
 shared-slice-read-if1 : tie.Need-shared-slice-read-if1
 shared-slice-read-if1 c = search needs
 
--- src/lib.rt:26:16
 add-result : tie.Need-add-result
 add-result c = search needs
 
--- src/lib.rt:26:9
 returns : tie.Need-returns
 returns c = let s = c .before .before in (after-plain (now (s .args .words)) (s .args .i) (s .pre) (c .if1 .taken), omega arith)
 
--- src/lib.rt:28:8
 sub-if2 : tie.Need-sub-if2
 sub-if2 c = search needs
 
--- src/lib.rt:29:16
 add-result-2 : tie.Need-add-result-2
 add-result-2 c = search needs
 
--- src/lib.rt:29:9
 returns-2 : tie.Need-returns-2
 returns-2 c = let s = c .before .before .before in (after-last (now (s .args .words)) (s .args .i) (s .pre) (omega arith), omega arith)
 
--- src/lib.rt:31:5
 add-result-3 : tie.Need-add-result-3
 add-result-3 c = search needs
 
--- src/lib.rt:20:1
 returns-3 : tie.Need-returns-3
 returns-3 c = let s = c .before .before .before in (after-hop (now (s .args .words)) (s .args .i) (s .pre) (c .before .if1 .left) (omega arith), omega arith)
 

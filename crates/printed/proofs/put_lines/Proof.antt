@@ -12,32 +12,25 @@ Inv-loop words out₀ at₀ i₀ out at i = PutSo words out₀ at i out
 abbrev μ-loop : tie.MeasureT-loop
 μ-loop words out₀ at₀ i₀ out at i = length words - i
 
--- src/lib.rt:40:5
 loop-holds : tie.Need-loop-holds Inv-loop μ-loop
 loop-holds c = none-yet _ _
 
--- src/lib.rt:41:9
 put-line-requires : tie.Need-put-line-requires Inv-loop μ-loop
 put-line-requires c κs = tt
 
--- src/lib.rt:42:9
 next-head-requires : tie.Need-next-head-requires Inv-loop μ-loop
 next-head-requires c κs = omega arith
 
--- src/lib.rt:40:5
 loop-less : tie.Need-loop-less Inv-loop μ-loop
 loop-less c = omega (arith, c .next-head .ensures .1)
 
--- src/lib.rt:40:5
 loop-again : tie.Need-loop-again Inv-loop μ-loop
 loop-again c = let l = c .before .before .before .before .before .before in
     one-more (l .loop .inv) (omega (arith, l .before .before .before .good)) (c .next-head .ensures .0) (c .before .before .before .put-line .ensures)
 
--- src/lib.rt:35:1
 same-length : tie.Need-same-length Inv-loop μ-loop
 same-length c = same-long (c .before .loop .inv .put)
 
--- src/lib.rt:35:1
 returns : tie.Need-returns Inv-loop μ-loop
 returns c = all-put (c .before .loop .inv) (omega arith)
 

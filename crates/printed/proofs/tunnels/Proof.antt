@@ -13,36 +13,28 @@ Inv-loop words n₀ i₀ n i = CountedSo words i n
 abbrev μ-loop : tie.MeasureT-loop
 μ-loop words n₀ i₀ n i = length words - i
 
--- src/lib.rt:69:5
 loop-holds : tie.Need-loop-holds Inv-loop μ-loop
 loop-holds c = none-counted _
 
--- src/lib.rt:70:12
 mul-if1 : tie.Need-mul-if1 Inv-loop μ-loop
 mul-if1 c = omega arith
 
--- src/lib.rt:70:12
 shared-slice-read-if1 : tie.Need-shared-slice-read-if1 Inv-loop μ-loop
 shared-slice-read-if1 c = omega arith
 
--- src/lib.rt:71:13
 add-n : tie.Need-add-n Inv-loop μ-loop
 add-n c = omega arith
 
--- src/lib.rt:73:9
 next-head-requires : tie.Need-next-head-requires Inv-loop μ-loop
 next-head-requires c κs = omega arith
 
--- src/lib.rt:69:5
 loop-less : tie.Need-loop-less Inv-loop μ-loop
 loop-less c = omega (arith, c .next-head .ensures .1)
 
--- src/lib.rt:69:5
 loop-again : tie.Need-loop-again Inv-loop μ-loop
 loop-again c = let l = c .before .before .before .before in let e = c .next-head .ensures in
     ⊎-elim (λ w. count-tunnel (l .loop .inv) (e .1) (e .0) (w .1) (w .0 .taken)) (λ w. count-other (l .loop .inv) (e .1) (e .0) (w .1) (w .0 .left)) (c .before .if1 .came)
 
--- src/lib.rt:64:1
 returns : tie.Need-returns Inv-loop μ-loop
 returns c = counted-all (c .before .loop .inv) (omega arith)
 

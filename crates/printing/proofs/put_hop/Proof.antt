@@ -10,87 +10,66 @@ use borrow.Author.Needs.{needs}
 use Rattle.printing.proofs.put_hop.Statement.{statement}
 use Rattle.printing.proofs.put_hop.Tie as tie
 
--- src/lib.rt:104:40
 cast-put-number : tie.Need-cast-put-number
 cast-put-number c = search needs
 
--- src/lib.rt:104:9
 put-number-requires : tie.Need-put-number-requires
 put-number-requires c κs = search needs
 
--- src/lib.rt:105:37
 slice-aggregate-put-text : tie.Need-slice-aggregate-put-text
 slice-aggregate-put-text c = search needs
 
--- src/lib.rt:105:9
 put-text-requires : tie.Need-put-text-requires
 put-text-requires c κs = search needs
 
--- src/lib.rt:106:39
 cast-put-number-2 : tie.Need-cast-put-number-2
 cast-put-number-2 c = search needs
 
--- src/lib.rt:106:9
 put-number-requires-2 : tie.Need-put-number-requires-2
 put-number-requires-2 c κs = search needs
 
--- src/lib.rt:107:37
 slice-aggregate-put-text-2 : tie.Need-slice-aggregate-put-text-2
 slice-aggregate-put-text-2 c = search needs
 
--- src/lib.rt:107:9
 put-text-requires-2 : tie.Need-put-text-requires-2
 put-text-requires-2 c κs = search needs
 
--- src/lib.rt:108:39
 cast-put-number-3 : tie.Need-cast-put-number-3
 cast-put-number-3 c = search needs
 
--- src/lib.rt:108:9
 put-number-requires-3 : tie.Need-put-number-requires-3
 put-number-requires-3 c κs = search needs
 
--- src/lib.rt:109:37
 slice-aggregate-put-text-3 : tie.Need-slice-aggregate-put-text-3
 slice-aggregate-put-text-3 c = search needs
 
--- src/lib.rt:109:9
 put-text-requires-3 : tie.Need-put-text-requires-3
 put-text-requires-3 c κs = search needs
 
--- src/lib.rt:110:39
 cast-put-number-4 : tie.Need-cast-put-number-4
 cast-put-number-4 c = search needs
 
--- src/lib.rt:110:9
 put-number-requires-4 : tie.Need-put-number-requires-4
 put-number-requires-4 c κs = search needs
 
--- src/lib.rt:111:37
 slice-aggregate-put-text-4 : tie.Need-slice-aggregate-put-text-4
 slice-aggregate-put-text-4 c = search needs
 
--- src/lib.rt:111:9
 put-text-requires-4 : tie.Need-put-text-requires-4
 put-text-requires-4 c κs = search needs
 
--- src/lib.rt:112:39
 cast-put-number-5 : tie.Need-cast-put-number-5
 cast-put-number-5 c = search needs
 
--- src/lib.rt:112:9
 put-number-requires-5 : tie.Need-put-number-requires-5
 put-number-requires-5 c κs = search needs
 
--- src/lib.rt:113:29
 slice-aggregate-put-text-5 : tie.Need-slice-aggregate-put-text-5
 slice-aggregate-put-text-5 c = search needs
 
--- src/lib.rt:113:5
 put-text-requires-5 : tie.Need-put-text-requires-5
 put-text-requires-5 c κs = search needs
 
--- src/lib.rt:101:1
 returns : tie.Need-returns
 unfolding bytesOf hopLine placeOf inAdapter outAdapter
 returns c = let p10 = c .before .before in
@@ -107,7 +86,6 @@ returns c = let p10 = c .before .before in
     let h : length (now (s .args .out)) ≤ most = omega (arith, s .good) in
     then h (then h (then h (then h (then h (then h (then h (then h (then h (p1 .put-number .ensures) (p2 .put-text .ensures)) (p3 .put-number2 .ensures)) (p4 .put-text2 .ensures)) (p5 .put-number3 .ensures)) (p6 .put-text3 .ensures)) (p7 .put-number4 .ensures)) (p8 .put-text4 .ensures)) (p9 .put-number5 .ensures)) (p10 .put-text5 .ensures)
 
--- src/lib.rt:101:1
 same-length : tie.Need-same-length
 same-length c = same-long (returns c)
 

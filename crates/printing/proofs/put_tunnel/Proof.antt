@@ -11,67 +11,51 @@ use borrow.Author.Needs.{needs}
 use Rattle.printing.proofs.put_tunnel.Statement.{statement}
 use Rattle.printing.proofs.put_tunnel.Tie as tie
 
--- src/lib.rt:77:9
 put-type-requires : tie.Need-put-type-requires
 put-type-requires c κs = search needs
 
--- src/lib.rt:78:37
 slice-aggregate-put-text : tie.Need-slice-aggregate-put-text
 slice-aggregate-put-text c = search needs
 
--- src/lib.rt:78:9
 put-text-requires : tie.Need-put-text-requires
 put-text-requires c κs = search needs
 
--- src/lib.rt:79:39
 cast-put-number : tie.Need-cast-put-number
 cast-put-number c = search needs
 
--- src/lib.rt:79:9
 put-number-requires : tie.Need-put-number-requires
 put-number-requires c κs = search needs
 
--- src/lib.rt:80:37
 slice-aggregate-put-text-2 : tie.Need-slice-aggregate-put-text-2
 slice-aggregate-put-text-2 c = search needs
 
--- src/lib.rt:80:9
 put-text-requires-2 : tie.Need-put-text-requires-2
 put-text-requires-2 c κs = search needs
 
--- src/lib.rt:81:39
 cast-put-number-2 : tie.Need-cast-put-number-2
 cast-put-number-2 c = search needs
 
--- src/lib.rt:81:9
 put-number-requires-2 : tie.Need-put-number-requires-2
 put-number-requires-2 c κs = search needs
 
--- src/lib.rt:82:37
 slice-aggregate-put-text-3 : tie.Need-slice-aggregate-put-text-3
 slice-aggregate-put-text-3 c = search needs
 
--- src/lib.rt:82:9
 put-text-requires-3 : tie.Need-put-text-requires-3
 put-text-requires-3 c κs = search needs
 
--- src/lib.rt:83:39
 cast-put-number-3 : tie.Need-cast-put-number-3
 cast-put-number-3 c = search needs
 
--- src/lib.rt:83:9
 put-number-requires-3 : tie.Need-put-number-requires-3
 put-number-requires-3 c κs = search needs
 
--- src/lib.rt:85:40
 slice-aggregate-put-text-4 : tie.Need-slice-aggregate-put-text-4
 slice-aggregate-put-text-4 c = search needs
 
--- src/lib.rt:85:9
 put-text-requires-4 : tie.Need-put-text-requires-4
 put-text-requires-4 c κs = search needs
 
--- src/lib.rt:85:9
 returns : tie.Need-returns
 unfolding bytesOf tunnelLine placeOf inAdapter
 returns c = let p8 = c .before .before in
@@ -86,19 +70,15 @@ returns c = let p8 = c .before .before in
     let h : length (now (s .args .out)) ≤ most = omega (arith, s .good) in
     rw (eq-eqb _ 1 (c .before .before .before .before .before .if1 .taken)) (then h (then h (then h (then h (then h (then h (then h (p1 .put-type .ensures) (p2 .put-text .ensures)) (p3 .put-number .ensures)) (p4 .put-text2 .ensures)) (p5 .put-number2 .ensures)) (p6 .put-text3 .ensures)) (p7 .put-number3 .ensures)) (p8 .put-text4 .ensures))
 
--- src/lib.rt:85:9
 same-length : tie.Need-same-length
 same-length c = same-long (returns c)
 
--- src/lib.rt:87:29
 slice-aggregate-put-text-5 : tie.Need-slice-aggregate-put-text-5
 slice-aggregate-put-text-5 c = search needs
 
--- src/lib.rt:87:5
 put-text-requires-5 : tie.Need-put-text-requires-5
 put-text-requires-5 c κs = search needs
 
--- src/lib.rt:74:1
 returns-2 : tie.Need-returns-2
 unfolding bytesOf tunnelLine placeOf inAdapter
 returns-2 c = let p8 = c .before .before in
@@ -113,7 +93,6 @@ returns-2 c = let p8 = c .before .before in
     let h : length (now (s .args .out)) ≤ most = omega (arith, s .good) in
     rw (ne-eqb _ 1 (c .before .before .before .before .before .if1 .left)) (then h (then h (then h (then h (then h (then h (then h (p1 .put-type .ensures) (p2 .put-text .ensures)) (p3 .put-number .ensures)) (p4 .put-text2 .ensures)) (p5 .put-number2 .ensures)) (p6 .put-text3 .ensures)) (p7 .put-number3 .ensures)) (p8 .put-text5 .ensures))
 
--- src/lib.rt:74:1
 same-length-2 : tie.Need-same-length-2
 same-length-2 c = same-long (returns-2 c)
 

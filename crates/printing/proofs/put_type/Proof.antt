@@ -5,87 +5,67 @@ use borrow.Author.Needs.{needs}
 use Rattle.printing.proofs.put_type.Statement.{statement}
 use Rattle.printing.proofs.put_type.Tie as tie
 
--- src/lib.rt:25:41
 slice-aggregate-put-text : tie.Need-slice-aggregate-put-text
 slice-aggregate-put-text c = search needs
 
--- src/lib.rt:25:9
 put-text-requires : tie.Need-put-text-requires
 put-text-requires c κs = search needs
 
--- src/lib.rt:25:9
 same-length : tie.Need-same-length
 same-length c = search needs
 
--- src/lib.rt:25:9
 returns : tie.Need-returns
 unfolding bytesOf typeName
 returns c = simp (c .before .before .before .before .before .if1 .taken) (c .before .before .put-text .ensures)
 
--- src/lib.rt:28:41
 slice-aggregate-put-text-2 : tie.Need-slice-aggregate-put-text-2
 slice-aggregate-put-text-2 c = search needs
 
--- src/lib.rt:28:9
 put-text-requires-2 : tie.Need-put-text-requires-2
 put-text-requires-2 c κs = search needs
 
--- src/lib.rt:28:9
 same-length-2 : tie.Need-same-length-2
 same-length-2 c = search needs
 
--- src/lib.rt:28:9
 returns-2 : tie.Need-returns-2
 unfolding bytesOf typeName
 returns-2 c = simp (c .before .before .before .before .before .if2 .taken) (c .before .before .put-text2 .ensures)
 
--- src/lib.rt:31:41
 slice-aggregate-put-text-3 : tie.Need-slice-aggregate-put-text-3
 slice-aggregate-put-text-3 c = search needs
 
--- src/lib.rt:31:9
 put-text-requires-3 : tie.Need-put-text-requires-3
 put-text-requires-3 c κs = search needs
 
--- src/lib.rt:31:9
 same-length-3 : tie.Need-same-length-3
 same-length-3 c = search needs
 
--- src/lib.rt:31:9
 returns-3 : tie.Need-returns-3
 unfolding bytesOf typeName
 returns-3 c = simp (c .before .before .before .before .before .if3 .taken) (c .before .before .put-text3 .ensures)
 
--- src/lib.rt:34:41
 slice-aggregate-put-text-4 : tie.Need-slice-aggregate-put-text-4
 slice-aggregate-put-text-4 c = search needs
 
--- src/lib.rt:34:9
 put-text-requires-4 : tie.Need-put-text-requires-4
 put-text-requires-4 c κs = search needs
 
--- src/lib.rt:34:9
 same-length-4 : tie.Need-same-length-4
 same-length-4 c = search needs
 
--- src/lib.rt:34:9
 returns-4 : tie.Need-returns-4
 unfolding bytesOf typeName
 returns-4 c = simp (c .before .before .before .before .before .if4 .taken) (c .before .before .put-text4 .ensures)
 
--- src/lib.rt:36:30
 slice-aggregate-put-text-5 : tie.Need-slice-aggregate-put-text-5
 slice-aggregate-put-text-5 c = search needs
 
--- src/lib.rt:36:5
 put-text-requires-5 : tie.Need-put-text-requires-5
 put-text-requires-5 c κs = search needs
 
--- src/lib.rt:21:1
 same-length-5 : tie.Need-same-length-5
 same-length-5 c = search needs
 
--- src/lib.rt:21:1
 returns-5 : tie.Need-returns-5
 unfolding bytesOf typeName
 returns-5 c = simp (ne-eqb _ 3 (c .before .before .before .before .before .if4 .left), ne-eqb _ 2 (c .before .before .before .before .before .before .if3 .left), ne-eqb _ 1 (c .before .before .before .before .before .before .before .if2 .left), ne-eqb _ 0 (c .before .before .before .before .before .before .before .before .if1 .left)) (c .before .before .put-text5 .ensures)

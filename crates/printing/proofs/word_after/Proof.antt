@@ -14,31 +14,24 @@ use Rattle.printing.proofs.word_after.Tie as tie
 past : (t : List ℕ) (i k : ℕ) → length t ≤ i + k → 0 ≡ getD (drop i t) k 0
 past t i k h = sym (getD-drop i t k 0 ∙ List·getD-eq-default t 0 h)
 
--- src/lib.rt:12:9
 returns : tie.Need-returns
 returns c = past (now (c .before .args .words)) (c .before .args .i) (c .before .args .k) (omega arith)
 
--- src/lib.rt:14:8
 sub-if2 : tie.Need-sub-if2
 sub-if2 c = search needs
 
--- src/lib.rt:15:9
 returns-2 : tie.Need-returns-2
 returns-2 c = past (now (c .before .before .args .words)) (c .before .before .args .i) (c .before .before .args .k) (omega arith)
 
--- src/lib.rt:17:11
 add-result : tie.Need-add-result
 add-result c = search needs
 
--- src/lib.rt:17:5
 mul-result : tie.Need-mul-result
 mul-result c = search needs
 
--- src/lib.rt:17:5
 shared-slice-read-result : tie.Need-shared-slice-read-result
 shared-slice-read-result c = search needs
 
--- src/lib.rt:8:1
 returns-3 : tie.Need-returns-3
 returns-3 c = sym (getD-drop (c .before .before .before .args .i) (now (c .before .before .before .args .words)) (c .before .before .before .args .k) 0)
 

@@ -10,73 +10,57 @@ use borrow.Author.Needs.{needs}
 use Rattle.register.proofs.four_tokens.Statement.{statement}
 use Rattle.register.proofs.four_tokens.Tie as tie
 
--- src/lib.rt:74:33
 parse-hex-requires : tie.Need-parse-hex-requires
 parse-hex-requires c κs = search needs
 
--- src/lib.rt:74:23
 enum-known-offset : tie.Need-enum-known-offset
 enum-known-offset c = search needs
 
--- src/lib.rt:75:29
 enum-told : tie.Need-enum-told
 enum-told c = search needs
 
--- src/lib.rt:75:9
 returns : tie.Need-returns
 unfolding fourTokens withToken
 returns c = let e0 : hexNumber 0xffff (now (c .before .before .before .before .before .before .args .a)) ≡ None = sym (c .before .before .parse-hex .ensures) ∙ c .enum-told .given .1 in simp (e0)
 
--- src/lib.rt:77:35
 parse-decimal-requires : tie.Need-parse-decimal-requires
 parse-decimal-requires c κs = search needs
 
--- src/lib.rt:77:23
 enum-known-relative : tie.Need-enum-known-relative
 enum-known-relative c = search needs
 
--- src/lib.rt:78:29
 enum-told-2 : tie.Need-enum-told-2
 enum-told-2 c = search needs
 
--- src/lib.rt:78:9
 returns-2 : tie.Need-returns-2
 unfolding fourTokens withToken
 returns-2 c = let e0 : hexNumber 0xffff (now (c .before .before .before .before .before .before .before .before .before .before .args .a)) ≡ Value (c .before .before .before .before .offset .given .0 .0) = sym (c .before .before .before .before .before .before .parse-hex .ensures) ∙ c .before .before .before .before .offset .given .1 in
     let e1 : decimalNumber 0xffff (now (c .before .before .before .before .before .before .before .before .before .before .args .b)) ≡ None = sym (c .before .before .parse-decimal .ensures) ∙ c .enum-told2 .given .1 in simp (e0, e1)
 
--- src/lib.rt:80:32
 parse-hex-requires-2 : tie.Need-parse-hex-requires-2
 parse-hex-requires-2 c κs = search needs
 
--- src/lib.rt:80:23
 enum-known-value : tie.Need-enum-known-value
 enum-known-value c = search needs
 
--- src/lib.rt:81:29
 enum-told-3 : tie.Need-enum-told-3
 enum-told-3 c = search needs
 
--- src/lib.rt:81:9
 returns-3 : tie.Need-returns-3
 unfolding fourTokens withToken
 returns-3 c = let e0 : hexNumber 0xffff (now (c .before .before .before .before .before .before .before .before .before .before .before .before .before .before .args .a)) ≡ Value (c .before .before .before .before .before .before .before .before .offset .given .0 .0) = sym (c .before .before .before .before .before .before .before .before .before .before .parse-hex .ensures) ∙ c .before .before .before .before .before .before .before .before .offset .given .1 in
     let e1 : decimalNumber 0xffff (now (c .before .before .before .before .before .before .before .before .before .before .before .before .before .before .args .b)) ≡ Value (c .before .before .before .before .relative .given .0 .0) = sym (c .before .before .before .before .before .before .parse-decimal .ensures) ∙ c .before .before .before .before .relative .given .1 in
     let e2 : hexNumber 0xffffffff (now (c .before .before .before .before .before .before .before .before .before .before .before .before .before .before .args .d)) ≡ None = sym (c .before .before .parse-hex2 .ensures) ∙ c .enum-told3 .given .1 in simp (e0, e1, e2)
 
--- src/lib.rt:84:17
 cast-t13 : tie.Need-cast-t13
 cast-t13 c = let e0 : hexNumber 0xffff (now (c .before .before .before .before .before .before .before .before .before .before .before .before .before .before .before .args .a)) ≡ Value (c .before .before .before .before .before .before .before .before .before .offset .given .0 .0) = sym (c .before .before .before .before .before .before .before .before .before .before .before .parse-hex .ensures) ∙ c .before .before .before .before .before .before .before .before .before .offset .given .1 in record { fits = lt-of-le-of-lt (hex-le 0xffff (now (c .before .before .before .before .before .before .before .before .before .before .before .before .before .before .before .args .a)) (c .before .before .before .before .before .before .before .before .before .offset .given .0 .0) e0) (lit< tt) }
 
--- src/lib.rt:85:26
 cast-t14 : tie.Need-cast-t14
 cast-t14 c = let e1 : decimalNumber 0xffff (now (c .before .before .before .before .before .before .before .before .before .before .before .before .before .before .before .args .b)) ≡ Value (c .before .before .before .before .before .relative .given .0 .0) = sym (c .before .before .before .before .before .before .before .parse-decimal .ensures) ∙ c .before .before .before .before .before .relative .given .1 in record { fits = lt-of-le-of-lt (decimal-le 0xffff (now (c .before .before .before .before .before .before .before .before .before .before .before .before .before .before .before .args .b)) (c .before .before .before .before .before .relative .given .0 .0) e1) (lit< tt) }
 
--- src/lib.rt:88:16
 cast-t15 : tie.Need-cast-t15
 cast-t15 c = let e2 : hexNumber 0xffffffff (now (c .before .before .before .before .before .before .before .before .before .before .before .before .before .before .before .args .d)) ≡ Value (c .before .value .given .0 .0) = sym (c .before .before .before .parse-hex2 .ensures) ∙ c .before .value .given .1 in record { fits = lt-of-le-of-lt (hex-le 0xffffffff (now (c .before .before .before .before .before .before .before .before .before .before .before .before .before .before .before .args .d)) (c .before .value .given .0 .0) e2) (lit< tt) }
 
--- src/lib.rt:71:1
 returns-4 : tie.Need-returns-4
 unfolding fourTokens withToken registerOf
 returns-4 c = let e0 : hexNumber 0xffff (now (c .before .before .before .before .before .before .before .before .before .before .before .before .before .before .before .args .a)) ≡ Value (c .before .before .before .before .before .before .before .before .before .offset .given .0 .0) = sym (c .before .before .before .before .before .before .before .before .before .before .before .parse-hex .ensures) ∙ c .before .before .before .before .before .before .before .before .before .offset .given .1 in

@@ -8,18 +8,15 @@ use borrow.Author.Needs.{needs}
 use Rattle.register.proofs.is_comment.Statement.{statement}
 use Rattle.register.proofs.is_comment.Tie as tie
 
--- src/lib.rt:65:9
 returns : tie.Need-returns
 unfolding isComment
 returns c = let s = now (c .before .args .s) in
     let h : length s ≤ 0 = omega arith in
     simp (List·getD-eq-default s 0 h)
 
--- src/lib.rt:67:5
 shared-slice-read-result : tie.Need-shared-slice-read-result
 shared-slice-read-result c = search needs
 
--- src/lib.rt:61:1
 returns-2 : tie.Need-returns-2
 unfolding isComment
 returns-2 c = refl

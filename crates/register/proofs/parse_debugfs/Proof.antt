@@ -11,30 +11,24 @@ use borrow.Author.Needs.{needs}
 use Rattle.register.proofs.parse_debugfs.Statement.{statement}
 use Rattle.register.proofs.parse_debugfs.Tie as tie
 
--- src/lib.rt:158:9
 first-high-requires : tie.Need-first-high-requires
 first-high-requires c κs = search needs
 
--- src/lib.rt:160:9
 returns : tie.Need-returns
 unfolding lineAnswer lineOutcome
 returns c = let s = now (c .before .before .before .args .line) in
     let p : placeFrom isHigh s 0 < length s = omega (arith, c .before .first-high .ensures) in
     simp (lt-ltb _ _ p, c .before .first-high .ensures)
 
--- src/lib.rt:162:26
 read-line-requires : tie.Need-read-line-requires
 read-line-requires c κs = search needs
 
--- src/lib.rt:162:21
 enum-known-r : tie.Need-enum-known-r
 enum-known-r c = search needs
 
--- src/lib.rt:163:9
 enum-told : tie.Need-enum-told
 enum-told c = search needs
 
--- src/lib.rt:163:9
 returns-2 : tie.Need-returns-2
 unfolding lineAnswer lineOutcome recordOf
 returns-2 c = let s = now (c .before .before .before .before .before .before .args .line) in
@@ -42,7 +36,6 @@ returns-2 c = let s = now (c .before .before .before .before .before .before .ar
     let e : meaning s ≡ Skipped (c .enum-told .given .0 .0) = sym (c .before .before .read-line .ensures) ∙ c .enum-told .given .1 in
     simp (le-ltb _ _ p, e)
 
--- src/lib.rt:155:1
 returns-3 : tie.Need-returns-3
 unfolding lineAnswer lineOutcome recordOf
 returns-3 c = let s = now (c .before .before .before .before .before .before .before .args .line) in

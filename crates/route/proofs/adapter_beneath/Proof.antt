@@ -6,47 +6,36 @@ use borrow.Author.Needs.{needs}
 use Rattle.route.proofs.adapter_beneath.Statement.{statement}
 use Rattle.route.proofs.adapter_beneath.Tie as tie
 
--- src/lib.rt:67:9
 depth-requires : tie.Need-depth-requires
 depth-requires c κs = search needs
 
--- src/lib.rt:69:9
 returns : tie.Need-returns
 returns c = sym (adapter-deep _ _ (c .before .depth .ensures) _ (omega arith))
 
--- src/lib.rt:71:8
 depth-requires-2 : tie.Need-depth-requires-2
 depth-requires-2 c κs = search needs
 
--- src/lib.rt:71:25
 add-if2 : tie.Need-add-if2
 add-if2 c = search needs
 
--- src/lib.rt:72:9
 returns-2 : tie.Need-returns-2
 returns-2 c = sym (adapter-depth _ _ (c .before .before .before .depth .ensures) _ _ (c .before .depth2 .ensures) (c .if2 .taken))
 
--- src/lib.rt:74:9
 unit-requires : tie.Need-unit-requires
 unit-requires c κs = omega arith
 
--- src/lib.rt:75:17
 rem-if3 : tie.Need-rem-if3
 rem-if3 c = let h : c .before .before .before .before .depth .result < 8 = omega arith in unit-pos _ _ (c .before .before .before .before .depth .ensures) _ h (c .unit .ensures)
 
--- src/lib.rt:76:9
 returns-3 : tie.Need-returns-3
 returns-3 c = let h : c .before .before .before .before .before .depth .result < 8 = omega arith in sym (adapter-route _ _ (c .before .before .before .before .before .depth .ensures) _ h (c .before .unit .ensures) _ _ (c .before .before .before .depth2 .ensures) (c .if3 .taken))
 
--- src/lib.rt:78:28
 div-t8 : tie.Need-div-t8
 div-t8 c = let h : c .before .before .before .before .before .depth .result < 8 = omega arith in unit-pos _ _ (c .before .before .before .before .before .depth .ensures) _ h (c .before .unit .ensures)
 
--- src/lib.rt:78:27
 cast-t10 : tie.Need-cast-t10
 cast-t10 c = search needs
 
--- src/lib.rt:64:1
 returns-4 : tie.Need-returns-4
 returns-4 c = let h : c .before .before .before .before .before .depth .result < 8 = omega arith in sym (adapter-some _ _ (c .before .before .before .before .before .depth .ensures) _ h (c .before .unit .ensures) _ _ (c .before .before .before .depth2 .ensures) (c .before .before .if2 .left) (c .if3 .left))
 

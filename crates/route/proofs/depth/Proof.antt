@@ -12,33 +12,27 @@ Inv-loop route rest₀ d₀ rest d = (d ≤ 8) × (d + usedBytes (8 - d) rest �
 abbrev μ-loop : tie.MeasureT-loop
 μ-loop route rest₀ d₀ rest d = 8 - d
 
--- src/lib.rt:23:5
 loop-holds : tie.Need-loop-holds Inv-loop μ-loop
 unfolding depthOf
 loop-holds c = (omega arith, omega arith)
 
--- src/lib.rt:25:13
 returns : tie.Need-returns Inv-loop μ-loop
 returns c = let l = c .before .before .loop in
     let k : suc (7 - l .d) ≡ 8 - l .d = omega arith in
     omega (arith, ap (λ n. usedBytes n (l .rest)) k, bytes-none (7 - l .d) (l .rest) (c .if1 .taken))
 
--- src/lib.rt:28:9
 add-d : tie.Need-add-d Inv-loop μ-loop
 add-d c = omega arith
 
--- src/lib.rt:23:5
 loop-less : tie.Need-loop-less Inv-loop μ-loop
 loop-less c = omega arith
 
--- src/lib.rt:23:5
 loop-again : tie.Need-loop-again Inv-loop μ-loop
 loop-again c = let l = c .before .before .loop in
     let k : suc (7 - l .d) ≡ 8 - l .d = omega arith in
     let m : 7 - l .d ≡ 8 - (l .d + 1) = omega arith in
     (omega arith, omega (arith, ap (λ n. usedBytes n (l .rest)) k, bytes-more (7 - l .d) (l .rest) (c .if1 .left), ap (λ n. usedBytes n (l .rest / 256)) m))
 
--- src/lib.rt:18:1
 returns-2 : tie.Need-returns-2 Inv-loop μ-loop
 unfolding usedBytes
 returns-2 c = let l = c .before .loop in

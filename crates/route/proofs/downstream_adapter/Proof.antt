@@ -4,16 +4,13 @@ use Rattle.route.specs.Route.{downstreamAdapter}
 use Rattle.route.proofs.downstream_adapter.Statement.{statement}
 use Rattle.route.proofs.downstream_adapter.Tie as tie
 
--- src/lib.rt:87:9
 returns : tie.Need-returns
 unfolding downstreamAdapter
 returns c = simp (ne-eqb _ _ (c .if1 .taken))
 
--- src/lib.rt:89:5
 adapter-beneath-requires : tie.Need-adapter-beneath-requires
 adapter-beneath-requires c κs = search needs
 
--- src/lib.rt:83:1
 returns-2 : tie.Need-returns-2
 unfolding downstreamAdapter
 returns-2 c = simp (eq-eqb _ _ (c .before .if1 .left)) (c .adapter-beneath .ensures)

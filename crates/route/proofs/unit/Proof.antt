@@ -6,19 +6,15 @@ use borrow.Author.Needs.{needs}
 use Rattle.route.proofs.unit.Statement.{statement}
 use Rattle.route.proofs.unit.Tie as tie
 
--- src/lib.rt:38:14
 mul-result : tie.Need-mul-result
 mul-result c = search needs
 
--- src/lib.rt:38:14
 cast-result : tie.Need-cast-result
 cast-result c = search needs
 
--- src/lib.rt:38:5
 shl-result : tie.Need-shl-result
 shl-result c = search needs
 
--- src/lib.rt:34:1
 returns : tie.Need-returns
 returns c = rw (shl-exact {a = 1} 1 (8 * c .args .depth) 64 (omega arith) (omega arith), one-mul)
 

@@ -3,23 +3,18 @@ use borrow.Author.Needs.{needs}
 use Rattle.routers.proofs.device_of.Statement.{statement}
 use Rattle.routers.proofs.device_of.Tie as tie
 
--- src/lib.rt:256:33
 cast-device-kind : tie.Need-cast-device-kind
 cast-device-kind c = search needs
 
--- src/lib.rt:256:15
 device-kind-requires : tie.Need-device-kind-requires
 device-kind-requires c κs = search needs
 
--- src/lib.rt:258:17
 cast-t11 : tie.Need-cast-t11
 cast-t11 c = search needs
 
--- src/lib.rt:260:19
 upstream-by-requires : tie.Need-upstream-by-requires
 upstream-by-requires c κs = search needs
 
--- src/lib.rt:252:1
 returns : tie.Need-returns
 returns c = λ p. device-made p _ (c .before .before .args .mark) _ _ (c .before .device-kind .ensures) (c .upstream-by .ensures)
 

@@ -8,37 +8,29 @@ use borrow.Author.Needs.{needs}
 use Rattle.routers.proofs.find_device.Statement.{statement}
 use Rattle.routers.proofs.find_device.Tie as tie
 
--- src/lib.rt:269:9
 returns : tie.Need-returns
 unfolding deviceFound
 returns c = device-past-routes 0 (now (c .before .before .before .args .routes)) (now (c .before .before .before .args .marks)) (c .before .before .before .args .place) (c .if1 .taken)
 
--- src/lib.rt:272:9
 returns-2 : tie.Need-returns-2
 unfolding deviceFound
 returns-2 c = device-past-marks 0 (now (c .before .before .before .before .args .routes)) (now (c .before .before .before .before .args .marks)) (c .before .before .before .before .args .place) (c .if2 .taken)
 
--- src/lib.rt:274:35
 mul-device-of : tie.Need-mul-device-of
 mul-device-of c = search needs
 
--- src/lib.rt:274:35
 shared-slice-read-device-of : tie.Need-shared-slice-read-device-of
 shared-slice-read-device-of c = search needs
 
--- src/lib.rt:274:50
 mul-device-of-2 : tie.Need-mul-device-of-2
 mul-device-of-2 c = search needs
 
--- src/lib.rt:274:50
 shared-slice-read-device-of-2 : tie.Need-shared-slice-read-device-of-2
 shared-slice-read-device-of-2 c = search needs
 
--- src/lib.rt:274:25
 device-of-requires : tie.Need-device-of-requires
 device-of-requires c κs = search needs
 
--- src/lib.rt:265:1
 returns-3 : tie.Need-returns-3
 unfolding deviceFound
 returns-3 c = let a = c .before .before .before .before .before .before .before .args in

@@ -17,45 +17,35 @@ Inv-loop routes marks domain route i₀ i = (i ≤ length routes) × (routerFrom
 abbrev μ-loop : tie.MeasureT-loop
 μ-loop routes marks domain route i₀ i = length routes - i
 
--- src/lib.rt:282:5
 loop-holds : tie.Need-loop-holds Inv-loop μ-loop
 loop-holds c = (omega arith, refl)
 
--- src/lib.rt:284:13
 returns : tie.Need-returns Inv-loop μ-loop
 unfolding routerFound
 returns c = router-past-marks _ _ _ _ _ (omega arith) (c .if1 .taken) ∙ sym (c .before .before .loop .inv .1)
 
--- src/lib.rt:286:12
 mul-if2 : tie.Need-mul-if2 Inv-loop μ-loop
 mul-if2 c = omega arith
 
--- src/lib.rt:286:12
 shared-slice-read-if2 : tie.Need-shared-slice-read-if2 Inv-loop μ-loop
 shared-slice-read-if2 c = omega arith
 
--- src/lib.rt:287:24
 mul-mark : tie.Need-mul-mark Inv-loop μ-loop
 mul-mark c = omega arith
 
--- src/lib.rt:287:24
 shared-slice-read-mark : tie.Need-shared-slice-read-mark Inv-loop μ-loop
 shared-slice-read-mark c = omega arith
 
--- src/lib.rt:290:21
 returns-2 : tie.Need-returns-2 Inv-loop μ-loop
 unfolding routerFound
 returns-2 c = router-here _ _ _ _ _ (omega arith) (omega arith) (c .before .before .before .if2 .taken) (c .before .if3 .taken) (c .if4 .taken) ∙ sym (c .before .before .before .before .before .before .before .loop .inv .1)
 
--- src/lib.rt:294:9
 add-i : tie.Need-add-i Inv-loop μ-loop
 add-i c = omega arith
 
--- src/lib.rt:282:5
 loop-less : tie.Need-loop-less Inv-loop μ-loop
 loop-less c = omega arith
 
--- src/lib.rt:282:5
 loop-again : tie.Need-loop-again Inv-loop μ-loop
 loop-again c = let a = c .before .before .before .before .before .args in (
   omega arith,
@@ -64,7 +54,6 @@ loop-again c = let a = c .before .before .before .before .before .args in (
       (⊎-elim (λ x p q r. x .3 .left r) (⊎-elim (λ x p q r. x .2 .left q) (λ x p q r. x .left p)) (c .if2 .came)),
 )
 
--- src/lib.rt:278:1
 returns-3 : tie.Need-returns-3 Inv-loop μ-loop
 unfolding routerFound
 returns-3 c = router-past-routes _ _ _ _ _ (omega arith) ∙ sym (c .before .loop .inv .1)

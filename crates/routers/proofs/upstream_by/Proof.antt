@@ -4,21 +4,17 @@ use borrow.Author.Needs.{needs}
 use Rattle.routers.proofs.upstream_by.Statement.{statement}
 use Rattle.routers.proofs.upstream_by.Tie as tie
 
--- src/lib.rt:243:9
 returns : tie.Need-returns
 unfolding upstreamOutcome
 returns c = λ s. upstream-none s (c .before .args .code) (c .if1 .taken)
 
--- src/lib.rt:246:9
 returns-2 : tie.Need-returns-2
 unfolding upstreamOutcome
 returns-2 c = λ s. upstream-lacks s (c .before .before .args .code) (c .before .if1 .left) (c .if2 .taken)
 
--- src/lib.rt:248:23
 cast-t5 : tie.Need-cast-t5
 cast-t5 c = search needs
 
--- src/lib.rt:239:1
 returns-3 : tie.Need-returns-3
 unfolding upstreamOutcome
 returns-3 c = λ s. upstream-given s (c .before .before .args .code) (c .if2 .left)

@@ -12,83 +12,64 @@ use borrow.Author.Needs.{needs}
 use Rattle.routing.proofs.read_pair.Statement.{statement}
 use Rattle.routing.proofs.read_pair.Tie as tie
 
--- src/lib.rt:98:9
 load-requires : tie.Need-load-requires
 load-requires c κs = search needs
 
--- src/lib.rt:101:29
 enum-known-answer : tie.Need-enum-known-answer
 enum-known-answer c = search needs
 
--- src/lib.rt:104:13
 enum-known-answer-2 : tie.Need-enum-known-answer-2
 enum-known-answer-2 c = search needs
 
--- src/lib.rt:110:17
 array-share-prefix-routes : tie.Need-array-share-prefix-routes
 array-share-prefix-routes c = held _ _ _ _ _ (c .before .before .before .before .before .load .ok) (c .before .before .before .answer2 .given .1) (c .before .before .before .before .before .load .ensures .1) .routes
 
--- src/lib.rt:110:17
 slice-aggregate-find-device : tie.Need-slice-aggregate-find-device
 slice-aggregate-find-device c = sym (length-take-le _ _ (held _ _ _ _ _ (c .before .before .before .before .before .before .load .ok) (c .before .before .before .before .answer2 .given .1) (c .before .before .before .before .before .before .load .ensures .1) .routes))
 
--- src/lib.rt:111:17
 array-share-prefix-marks : tie.Need-array-share-prefix-marks
 array-share-prefix-marks c = held _ _ _ _ _ (c .before .before .before .before .before .before .load .ok) (c .before .before .before .before .answer2 .given .1) (c .before .before .before .before .before .before .load .ensures .1) .marks
 
--- src/lib.rt:111:17
 slice-aggregate-find-device-2 : tie.Need-slice-aggregate-find-device-2
 slice-aggregate-find-device-2 c = sym (length-take-le _ _ (held _ _ _ _ _ (c .before .before .before .before .before .before .before .load .ok) (c .before .before .before .before .before .answer2 .given .1) (c .before .before .before .before .before .before .before .load .ensures .1) .marks))
 
--- src/lib.rt:109:42
 find-device-requires : tie.Need-find-device-requires
 find-device-requires c κs = search needs
 
--- src/lib.rt:109:37
 enum-known-d : tie.Need-enum-known-d
 enum-known-d c = search needs
 
--- src/lib.rt:114:42
 enum-told : tie.Need-enum-told
 enum-told c = search needs
 
--- src/lib.rt:114:17
 returns : tie.Need-returns
 unfolding pairOutcome readPair refusedBy present bind deviceFound
 returns c = asked _ _ _ _ _ _ _ (pairIn (c .before .before .before .before .before .before .before .before .before .before .before .before .before .args .place) (c .before .before .before .before .before .before .before .before .before .before .before .before .before .args .number)) none (c .before .before .before .before .before .before .before .before .before .before .load .ensures .0) (c .before .before .before .before .before .before .before .before .answer2 .given .1) (sym (ap (deviceFound _) (c .enum-told .given .1)) ∙ c .before .before .find-device .ensures)
 
--- src/lib.rt:117:65
 array-share-prefix-table : tie.Need-array-share-prefix-table
 array-share-prefix-table c = held _ _ _ _ _ (c .before .before .before .before .before .before .before .before .before .before .before .before .load .ok) (c .before .before .before .before .before .before .before .before .before .before .answer2 .given .1) (c .before .before .before .before .before .before .before .before .before .before .before .before .load .ensures .1) .adapters
 
--- src/lib.rt:117:65
 slice-aggregate-find-adapter : tie.Need-slice-aggregate-find-adapter
 slice-aggregate-find-adapter c = sym (length-take-le _ _ (held _ _ _ _ _ (c .before .before .before .before .before .before .before .before .before .before .before .before .before .load .ok) (c .before .before .before .before .before .before .before .before .before .before .before .answer2 .given .1) (c .before .before .before .before .before .before .before .before .before .before .before .before .before .load .ensures .1) .adapters))
 
--- src/lib.rt:117:44
 find-adapter-requires : tie.Need-find-adapter-requires
 find-adapter-requires c κs = search needs
 
--- src/lib.rt:117:39
 enum-known-f : tie.Need-enum-known-f
 enum-known-f c = search needs
 
--- src/lib.rt:119:42
 enum-told-2 : tie.Need-enum-told-2
 enum-told-2 c = search needs
 
--- src/lib.rt:119:17
 returns-2 : tie.Need-returns-2
 unfolding pairOutcome refusedBy present bind deviceFound adapterFound
 returns-2 c = ap (λ (r : AdapterFound). pairOf (adapterFound (c .before .before .before .before .before .before .before .before .before .before .before .before .before .before .before .before .before .before .before .args .place) r) (deviceRow (c .before .before .before .before .before .before .before .before .before .before .before .before .before .before .before .before .before .before .before .args .place) (c .before .before .before .before .before .before .d .given .0 .0))) (sym (c .enum-told2 .given .1))
     ∙ pair-asked _ _ _ _ _ _ _ _ _ _ (c .before .before .before .before .before .before .before .before .before .before .before .before .before .before .before .before .load .ensures .0) (c .before .before .before .before .before .before .before .before .before .before .before .before .before .before .answer2 .given .1) (c .before .before .before .before .before .before .before .before .before .before .before .before .before .before .before .before .load .ensures .1) (sym (ap (deviceFound _) (c .before .before .before .before .before .before .d .given .1)) ∙ c .before .before .before .before .before .before .before .before .find-device .ensures) (c .before .before .find-adapter .ensures)
 
--- src/lib.rt:95:1
 returns-3 : tie.Need-returns-3
 unfolding pairOutcome readPair
 returns-3 c = load-refused _ _ _ (c .before .before .before .load .ensures .0) _ _ (c .before .answer .given .1)
 
--- src/lib.rt:95:1
 returns-4 : tie.Need-returns-4
 unfolding pairOutcome present bind deviceFound adapterFound
 returns-4 c = ap (λ (r : AdapterFound). pairOf (adapterFound (c .before .before .before .before .before .before .before .before .before .before .before .before .before .before .before .before .before .before .before .before .args .place) r) (deviceRow (c .before .before .before .before .before .before .before .before .before .before .before .before .before .before .before .before .before .before .before .before .args .place) (c .before .before .before .before .before .before .before .d .given .0 .0))) (sym (c .before .f .given .1))

@@ -5,63 +5,50 @@ use borrow.Author.Needs.{needs}
 use Rattle.rules.proofs.advance.Statement.{statement}
 use Rattle.rules.proofs.advance.Tie as tie
 
--- src/lib.rt:111:13
 good-device-requires : tie.Need-good-device-requires
 good-device-requires c κs = search needs
 
--- src/lib.rt:112:13
 returns : tie.Need-returns
 unfolding stepOf
 returns c = simp (eq-eqb _ _ (c .before .before .if1 .taken), sym (c .before .good-device .ensures) ∙ not-true _ (c .if2 .taken))
 
--- src/lib.rt:114:9
 returns-2 : tie.Need-returns-2
 unfolding stepOf afterDevice
 returns-2 c = simp (eq-eqb _ _ (c .before .before .if1 .taken), sym (c .before .good-device .ensures) ∙ not-false _ (c .if2 .left))
 
--- src/lib.rt:118:13
 returns-3 : tie.Need-returns-3
 unfolding stepOf
 returns-3 c = simp (ne-eqb _ _ (c .before .before .before .if1 .left), eq-eqb _ _ (c .before .before .if3 .taken), not-true (c .before .before .before .before .args .u .begun) (c .if4 .taken))
 
--- src/lib.rt:120:13
 good-adapter-requires : tie.Need-good-adapter-requires
 good-adapter-requires c κs = search needs
 
--- src/lib.rt:121:13
 returns-4 : tie.Need-returns-4
 unfolding stepOf
 returns-4 c = simp (ne-eqb _ _ (c .before .before .before .before .before .if1 .left), eq-eqb _ _ (c .before .before .before .before .if3 .taken), not-false (c .before .before .before .before .before .before .args .u .begun) (c .before .before .if4 .left), sym (c .before .good-adapter .ensures) ∙ not-true _ (c .if5 .taken))
 
--- src/lib.rt:123:9
 returns-5 : tie.Need-returns-5
 unfolding stepOf afterAdapter
 returns-5 c = simp (ne-eqb _ _ (c .before .before .before .before .before .if1 .left), eq-eqb _ _ (c .before .before .before .before .if3 .taken), not-false (c .before .before .before .before .before .before .args .u .begun) (c .before .before .if4 .left), sym (c .before .good-adapter .ensures) ∙ not-false _ (c .if5 .left))
 
--- src/lib.rt:126:9
 returns-6 : tie.Need-returns-6
 unfolding stepOf
 returns-6 c = simp (ne-eqb _ _ (c .before .before .if1 .left), ne-eqb _ _ (c .before .if3 .left), ne-eqb _ _ (c .if6 .taken))
 
--- src/lib.rt:128:9
 good-register-requires : tie.Need-good-register-requires
 good-register-requires c κs = search needs
 
--- src/lib.rt:129:9
 returns-7 : tie.Need-returns-7
 unfolding stepOf
 returns-7 c = simp (ne-eqb _ _ (c .before .before .before .before .if1 .left), ne-eqb _ _ (c .before .before .before .if3 .left), eq-eqb _ _ (c .before .before .if6 .left), sym (c .before .good-register .ensures) ∙ not-true _ (c .if7 .taken))
 
--- src/lib.rt:133:9
 may-stand-requires : tie.Need-may-stand-requires
 may-stand-requires c κs = search needs
 
--- src/lib.rt:134:9
 returns-8 : tie.Need-returns-8
 unfolding stepOf
 returns-8 c = simp (ne-eqb _ _ (c .before .before .before .before .before .before .if1 .left), ne-eqb _ _ (c .before .before .before .before .before .if3 .left), eq-eqb _ _ (c .before .before .before .before .if6 .left), sym (c .before .before .before .good-register .ensures) ∙ not-false _ (c .before .before .if7 .left), sym (c .before .may-stand .ensures) ∙ not-true _ (c .if8 .taken))
 
--- src/lib.rt:106:1
 returns-9 : tie.Need-returns-9
 unfolding stepOf afterRegister
 returns-9 c = simp (ne-eqb _ _ (c .before .before .before .before .before .before .if1 .left), ne-eqb _ _ (c .before .before .before .before .before .if3 .left), eq-eqb _ _ (c .before .before .before .before .if6 .left), sym (c .before .before .before .good-register .ensures) ∙ not-false _ (c .before .before .if7 .left), sym (c .before .may-stand .ensures) ∙ not-false _ (c .if8 .left))

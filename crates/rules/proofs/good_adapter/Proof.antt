@@ -3,17 +3,14 @@ use Rattle.survey.specs.Rules.{goodAdapter}
 use Rattle.rules.proofs.good_adapter.Statement.{statement}
 use Rattle.rules.proofs.good_adapter.Tie as tie
 
--- src/lib.rt:65:9
 returns : tie.Need-returns
 unfolding goodAdapter
 returns c = simp (lt-leb _ _ (c .if1 .taken))
 
--- src/lib.rt:68:9
 returns-2 : tie.Need-returns-2
 unfolding goodAdapter
 returns-2 c = simp (le-leb _ _ (c .before .if1 .left), lt-leb _ _ (c .if2 .taken))
 
--- src/lib.rt:61:1
 returns-3 : tie.Need-returns-3
 unfolding goodAdapter
 returns-3 c = simp (le-leb _ _ (c .before .if1 .left), le-leb _ _ (c .if2 .left))

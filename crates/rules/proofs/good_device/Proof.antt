@@ -3,22 +3,18 @@ use Rattle.survey.specs.Rules.{goodDevice}
 use Rattle.rules.proofs.good_device.Statement.{statement}
 use Rattle.rules.proofs.good_device.Tie as tie
 
--- src/lib.rt:49:9
 returns : tie.Need-returns
 unfolding goodDevice
 returns c = simp (lt-leb _ _ (c .if1 .taken))
 
--- src/lib.rt:52:9
 returns-2 : tie.Need-returns-2
 unfolding goodDevice
 returns-2 c = simp (le-leb _ _ (c .before .if1 .left), ne-eqb _ _ (c .if2 .taken))
 
--- src/lib.rt:55:9
 returns-3 : tie.Need-returns-3
 unfolding goodDevice
 returns-3 c = simp (le-leb _ _ (c .before .before .if1 .left), eq-eqb _ _ (c .before .if2 .left), eq-eqb _ _ (c .if3 .taken))
 
--- src/lib.rt:44:1
 returns-4 : tie.Need-returns-4
 unfolding goodDevice
 returns-4 c = simp (le-leb _ _ (c .before .before .if1 .left), eq-eqb _ _ (c .before .if2 .left), ne-eqb _ _ (c .if3 .left))

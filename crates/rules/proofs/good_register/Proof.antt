@@ -3,12 +3,10 @@ use Rattle.survey.specs.Rules.{goodRegister}
 use Rattle.rules.proofs.good_register.Statement.{statement}
 use Rattle.rules.proofs.good_register.Tie as tie
 
--- src/lib.rt:78:9
 returns : tie.Need-returns
 unfolding goodRegister
 returns c = simp (ne-eqb _ _ (c .if1 .taken))
 
--- src/lib.rt:74:1
 returns-2 : tie.Need-returns-2
 unfolding goodRegister
 returns-2 c = simp (eq-eqb _ _ (c .if1 .left))

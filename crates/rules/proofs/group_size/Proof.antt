@@ -3,17 +3,14 @@ use Rattle.survey.specs.Words.{isLong, sizeOf}
 use Rattle.rules.proofs.group_size.Statement.{statement}
 use Rattle.rules.proofs.group_size.Tie as tie
 
--- src/lib.rt:35:9
 returns : tie.Need-returns
 unfolding sizeOf isLong
 returns c = simp (eq-eqb _ _ (c .if1 .taken))
 
--- src/lib.rt:38:9
 returns-2 : tie.Need-returns-2
 unfolding sizeOf isLong
 returns-2 c = simp (ne-eqb _ _ (c .before .if1 .left), eq-eqb _ _ (c .if2 .taken))
 
--- src/lib.rt:30:1
 returns-3 : tie.Need-returns-3
 unfolding sizeOf isLong
 returns-3 c = simp (ne-eqb _ _ (c .before .if1 .left), ne-eqb _ _ (c .if2 .left))

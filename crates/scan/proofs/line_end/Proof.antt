@@ -14,35 +14,28 @@ Inv-loop s at i₀ i = placeFrom isLineFeed s at ≡ placeFrom isLineFeed s i
 abbrev μ-loop : tie.MeasureT-loop
 μ-loop s at i₀ i = length s - i
 
--- src/lib.rt:72:5
 loop-holds : tie.Need-loop-holds Inv-loop μ-loop
 loop-holds c = refl
 
--- src/lib.rt:73:12
 shared-slice-read-if1 : tie.Need-shared-slice-read-if1 Inv-loop μ-loop
 shared-slice-read-if1 c = omega arith
 
--- src/lib.rt:74:13
 returns : tie.Need-returns Inv-loop μ-loop
 unfolding isLineFeed
 returns c = let w = c .before .before .before .loop in
     sym (w .inv ∙ place-here isLineFeed _ (w .i) (c .before .before .loop-test .taken) (eq-eqb _ _ (c .if1 .taken)))
 
--- src/lib.rt:76:9
 add-i : tie.Need-add-i Inv-loop μ-loop
 add-i c = omega arith
 
--- src/lib.rt:72:5
 loop-less : tie.Need-loop-less Inv-loop μ-loop
 loop-less c = omega arith
 
--- src/lib.rt:72:5
 loop-again : tie.Need-loop-again Inv-loop μ-loop
 unfolding isLineFeed
 loop-again c = let w = c .before .before .before .loop in
     w .inv ∙ place-on isLineFeed _ (w .i) (c .before .before .loop-test .taken) (ne-eqb _ _ (c .if1 .left))
 
--- src/lib.rt:68:1
 returns-2 : tie.Need-returns-2 Inv-loop μ-loop
 returns-2 c = let w = c .before .loop in
     sym (w .inv ∙ place-end isLineFeed _ (w .i) (c .loop-test .left))

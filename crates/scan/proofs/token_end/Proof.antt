@@ -14,39 +14,31 @@ Inv-loop s at i₀ i = placeFrom isSpace s at ≡ placeFrom isSpace s i
 abbrev μ-loop : tie.MeasureT-loop
 μ-loop s at i₀ i = length s - i
 
--- src/lib.rt:36:5
 loop-holds : tie.Need-loop-holds Inv-loop μ-loop
 loop-holds c = refl
 
--- src/lib.rt:37:21
 shared-slice-read-is-space : tie.Need-shared-slice-read-is-space Inv-loop μ-loop
 shared-slice-read-is-space c = omega arith
 
--- src/lib.rt:37:12
 is-space-requires : tie.Need-is-space-requires Inv-loop μ-loop
 is-space-requires c κs = search needs
 
--- src/lib.rt:38:13
 returns : tie.Need-returns Inv-loop μ-loop
 unfolding isNot
 returns c = let w = c .before .before .before .before .loop in
     sym (w .inv ∙ place-here isSpace _ (w .i) (c .before .before .before .loop-test .taken) (sym (c .before .is-space .ensures) ∙ c .if1 .taken))
 
--- src/lib.rt:40:9
 add-i : tie.Need-add-i Inv-loop μ-loop
 add-i c = omega arith
 
--- src/lib.rt:36:5
 loop-less : tie.Need-loop-less Inv-loop μ-loop
 loop-less c = omega arith
 
--- src/lib.rt:36:5
 loop-again : tie.Need-loop-again Inv-loop μ-loop
 unfolding isNot
 loop-again c = let w = c .before .before .before .before .loop in
     w .inv ∙ place-on isSpace _ (w .i) (c .before .before .before .loop-test .taken) (sym (c .before .is-space .ensures) ∙ c .if1 .left)
 
--- src/lib.rt:32:1
 returns-2 : tie.Need-returns-2 Inv-loop μ-loop
 returns-2 c = let w = c .before .loop in
     sym (w .inv ∙ place-end isSpace _ (w .i) (c .loop-test .left))

@@ -5,61 +5,47 @@ use borrow.Author.Needs.{needs}
 use Rattle.search.proofs.find_entry.Statement.{statement}
 use Rattle.search.proofs.find_entry.Tie as tie
 
--- src/lib.rt:80:9
 returns : tie.Need-returns
 returns c = entry-past _ _ _ _ (c .if1 .taken)
 
--- src/lib.rt:82:15
 mul-key : tie.Need-mul-key
 mul-key c = search needs
 
--- src/lib.rt:82:43
 mul-key-2 : tie.Need-mul-key-2
 mul-key-2 c = search needs
 
--- src/lib.rt:82:15
 add-key : tie.Need-add-key
 add-key c = search needs
 
--- src/lib.rt:82:15
 add-key-2 : tie.Need-add-key-2
 add-key-2 c = search needs
 
--- src/lib.rt:83:27
 mul-seek : tie.Need-mul-seek
 mul-seek c = search needs
 
--- src/lib.rt:83:9
 seek-requires : tie.Need-seek-requires
 seek-requires c κs = search needs
 
--- src/lib.rt:85:9
 returns-2 : tie.Need-returns-2
 returns-2 c = let a = c .before .before .before .before .args in
     entry-missing (now (a .entries)) (a .place) (a .adapter) (a .hop) _ (omega arith) (omega arith) (omega arith) (c .before .seek .ensures) (λ l. absurd (omega arith))
 
--- src/lib.rt:87:13
 mul-w : tie.Need-mul-w
 mul-w c = search needs
 
--- src/lib.rt:87:13
 shared-slice-read-w : tie.Need-shared-slice-read-w
 shared-slice-read-w c = search needs
 
--- src/lib.rt:89:9
 returns-3 : tie.Need-returns-3
 returns-3 c = let a = c .before .before .before .before .before .before .args in
     entry-missing (now (a .entries)) (a .place) (a .adapter) (a .hop) _ (omega arith) (omega arith) (omega arith) (c .before .before .before .seek .ensures) (λ l. c .if3 .taken)
 
--- src/lib.rt:92:22
 cast-t17 : tie.Need-cast-t17
 cast-t17 c = search needs
 
--- src/lib.rt:93:18
 cast-t18 : tie.Need-cast-t18
 cast-t18 c = search needs
 
--- src/lib.rt:76:1
 returns-4 : tie.Need-returns-4
 returns-4 c = let a = c .before .before .before .before .before .before .args in
     entry-found (now (a .entries)) (a .place) (a .adapter) (a .hop) _ (omega arith) (omega arith) (omega arith) (c .before .before .before .seek .ensures) (c .before .before .if2 .left) (c .if3 .left)

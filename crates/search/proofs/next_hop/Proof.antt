@@ -5,57 +5,44 @@ use borrow.Author.Needs.{needs}
 use Rattle.search.proofs.next_hop.Statement.{statement}
 use Rattle.search.proofs.next_hop.Tie as tie
 
--- src/lib.rt:69:9
 returns : tie.Need-returns
 returns c = hop-past _ _ _ _ (c .if1 .taken)
 
--- src/lib.rt:71:17
 mul-owner : tie.Need-mul-owner
 mul-owner c = search needs
 
--- src/lib.rt:71:17
 add-owner : tie.Need-add-owner
 add-owner c = search needs
 
--- src/lib.rt:72:28
 mul-seek : tie.Need-mul-seek
 mul-seek c = search needs
 
--- src/lib.rt:72:28
 add-seek : tie.Need-add-seek
 add-seek c = search needs
 
--- src/lib.rt:72:27
 mul-seek-2 : tie.Need-mul-seek-2
 mul-seek-2 c = search needs
 
--- src/lib.rt:72:9
 seek-requires : tie.Need-seek-requires
 seek-requires c κs = search needs
 
--- src/lib.rt:74:9
 returns-2 : tie.Need-returns-2
 returns-2 c = let a = c .before .before .before .before .args in
     hop-over (now (a .entries)) (a .place) (a .adapter) (a .hop) _ (omega arith) (omega arith) (c .before .seek .ensures) (λ l. absurd (omega arith))
 
--- src/lib.rt:76:13
 mul-w : tie.Need-mul-w
 mul-w c = search needs
 
--- src/lib.rt:76:13
 shared-slice-read-w : tie.Need-shared-slice-read-w
 shared-slice-read-w c = search needs
 
--- src/lib.rt:78:9
 returns-3 : tie.Need-returns-3
 returns-3 c = let a = c .before .before .before .before .before .before .args in
     hop-over (now (a .entries)) (a .place) (a .adapter) (a .hop) _ (omega arith) (omega arith) (c .before .before .before .seek .ensures) (λ l. c .if3 .taken)
 
--- src/lib.rt:80:16
 cast-t15 : tie.Need-cast-t15
 cast-t15 c = search needs
 
--- src/lib.rt:65:1
 returns-4 : tie.Need-returns-4
 returns-4 c = let a = c .before .before .before .before .before .before .args in
     hop-found (now (a .entries)) (a .place) (a .adapter) (a .hop) _ (omega arith) (omega arith) (c .before .before .before .seek .ensures) (c .before .before .if2 .left) (c .if3 .left)

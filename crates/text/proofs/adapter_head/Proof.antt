@@ -9,43 +9,33 @@ use borrow.Author.Needs.{needs}
 use Rattle.text.proofs.adapter_head.Statement.{statement}
 use Rattle.text.proofs.adapter_head.Tie as tie
 
--- src/lib.rt:132:26
 mark-at-requires : tie.Need-mark-at-requires
 mark-at-requires c κs = search needs
 
--- src/lib.rt:132:9
 weight-of-requires : tie.Need-weight-of-requires
 weight-of-requires c κs = search needs
 
--- src/lib.rt:133:9
 past-mark-requires : tie.Need-past-mark-requires
 past-mark-requires c κs = search needs
 
--- src/lib.rt:134:27
 mark-at-requires-2 : tie.Need-mark-at-requires-2
 mark-at-requires-2 c κs = search needs
 
--- src/lib.rt:134:9
 path-mark-requires : tie.Need-path-mark-requires
 path-mark-requires c κs = search needs
 
--- src/lib.rt:135:18
 mul-result : tie.Need-mul-result
 mul-result c = search needs
 
--- src/lib.rt:135:5
 add-result : tie.Need-add-result
 add-result c = search needs
 
--- src/lib.rt:135:5
 add-result-2 : tie.Need-add-result-2
 add-result-2 c = omega (arith, c .path-mark .ensures .1, c .before .before .before .weight-of .ensures, bit-le (eqb (c .before .before .before .before .mark-at .result) 2))
 
--- src/lib.rt:135:5
 add-result-3 : tie.Need-add-result-3
 add-result-3 c = omega (arith, c .path-mark .ensures .1, c .before .before .before .weight-of .ensures, bit-le (eqb (c .before .before .before .before .mark-at .result) 2), c .before .before .before .before .before .before .fits)
 
--- src/lib.rt:128:1
 returns : tie.Need-returns
 returns c = let k = c .before .before .before in adapter-is _ _ _ _ _ (c .before .before .past-mark .ensures .sections) (k .weight-of .ensures ∙ ap (λ m. 256 * bit (eqb m 2)) (k .before .mark-at .ensures)) (c .path-mark .ensures .0 ∙ ap pathBy (c .before .mark-at2 .ensures))
 

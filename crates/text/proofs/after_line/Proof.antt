@@ -3,15 +3,12 @@ use borrow.Author.Needs.{needs}
 use Rattle.text.proofs.after_line.Statement.{statement}
 use Rattle.text.proofs.after_line.Tie as tie
 
--- src/lib.rt:46:16
 add-result : tie.Need-add-result
 add-result c = search needs
 
--- src/lib.rt:46:9
 returns : tie.Need-returns
 returns c = next-line-on _ _ (c .if1 .taken)
 
--- src/lib.rt:41:1
 returns-2 : tie.Need-returns-2
 returns-2 c = next-line-end _ _ (c .if1 .left) (c .before .pre)
 

@@ -11,47 +11,36 @@ Inv-loop groups₀ i₀ groups i = Marks groups₀ groups i
 abbrev μ-loop : tie.MeasureT-loop
 μ-loop groups₀ i₀ groups i = length groups₀ - i
 
--- src/lib.rt:187:5
 loop-holds : tie.Need-loop-holds Inv-loop μ-loop
 loop-holds c = marks-start _ (c .pre)
 
--- src/lib.rt:188:34
 mul-groups : tie.Need-mul-groups Inv-loop μ-loop
 mul-groups c = omega (arith, c .before .loop .inv .long, c .loop-test .taken, c .before .before .good)
 
--- src/lib.rt:188:34
 slice-read-groups : tie.Need-slice-read-groups Inv-loop μ-loop
 slice-read-groups c = c .before .loop-test .taken
 
--- src/lib.rt:188:21
 add-groups : tie.Need-add-groups Inv-loop μ-loop
 add-groups c = omega arith
 
--- src/lib.rt:188:9
 mul-groups-2 : tie.Need-mul-groups-2 Inv-loop μ-loop
 mul-groups-2 c = omega (arith, c .before .before .loop .inv .long, c .before .loop-test .taken, c .before .before .before .good)
 
--- src/lib.rt:188:9
 slice-write-groups : tie.Need-slice-write-groups Inv-loop μ-loop
 slice-write-groups c = c .before .loop-test .taken
 
--- src/lib.rt:189:9
 add-i : tie.Need-add-i Inv-loop μ-loop
 add-i c = omega (arith, c .before .before .loop .inv .long, c .before .loop-test .taken, c .before .before .before .good)
 
--- src/lib.rt:187:5
 loop-less : tie.Need-loop-less Inv-loop μ-loop
 loop-less c = omega (arith, c .before .before .loop .inv .long, c .before .loop-test .taken)
 
--- src/lib.rt:187:5
 loop-again : tie.Need-loop-again Inv-loop μ-loop
 loop-again c = marks-step _ _ _ (c .before .before .loop .inv) (omega (arith, c .before .before .loop .inv .long, c .before .loop-test .taken))
 
--- src/lib.rt:182:1
 same-length : tie.Need-same-length Inv-loop μ-loop
 same-length c = c .before .loop .inv .long
 
--- src/lib.rt:182:1
 returns : tie.Need-returns Inv-loop μ-loop
 returns c = marks-end _ _ _ (c .before .loop .inv) (omega (arith, c .before .loop .inv .long, c .loop-test .left))
 

@@ -14,39 +14,30 @@ Inv-loop text from i₀ i = Skips text from i
 abbrev μ-loop : tie.MeasureT-loop
 μ-loop text from i₀ i = length text - i
 
--- src/lib.rt:21:5
 loop-holds : tie.Need-loop-holds Inv-loop μ-loop
 loop-holds c = skips-start _ _ (c .before .pre)
 
--- src/lib.rt:22:12
 shared-slice-read-if1 : tie.Need-shared-slice-read-if1 Inv-loop μ-loop
 shared-slice-read-if1 c = search needs
 
--- src/lib.rt:23:13
 returns : tie.Need-returns Inv-loop μ-loop
 returns c = skipped-marker _ _ _ (c .before .before .before .loop .inv) (c .before .before .loop-test .taken) (c .if1 .taken)
 
--- src/lib.rt:25:13
 line-end-requires : tie.Need-line-end-requires Inv-loop μ-loop
 line-end-requires c κs = search needs
 
--- src/lib.rt:27:13
 returns-2 : tie.Need-returns-2 Inv-loop μ-loop
 returns-2 c = skipped-last _ _ _ _ (c .before .before .before .before .before .loop .inv) (c .before .before .before .before .loop-test .taken) (c .before .before .if1 .left) (c .before .line-end .ensures) (c .if2 .taken)
 
--- src/lib.rt:29:13
 add-i : tie.Need-add-i Inv-loop μ-loop
 add-i c = omega (arith, c .if2 .left, c .before .before .before .before .before .before .before .good)
 
--- src/lib.rt:21:5
 loop-less : tie.Need-loop-less Inv-loop μ-loop
 loop-less c = omega (arith, c .if2 .left, c .before .before .before .before .loop-test .taken, place-above isLineFeed (c .before .before .before .before .before .before .before .args .text .now) (c .before .before .before .before .before .loop .i), c .before .line-end .ensures)
 
--- src/lib.rt:21:5
 loop-again : tie.Need-loop-again Inv-loop μ-loop
 loop-again c = skips-more _ _ _ _ (c .before .before .before .before .before .loop .inv) (c .before .before .before .before .loop-test .taken) (c .before .before .if1 .left) (c .before .line-end .ensures) (c .if2 .left)
 
--- src/lib.rt:16:1
 returns-3 : tie.Need-returns-3 Inv-loop μ-loop
 returns-3 c = skipped-end _ _ _ (c .before .loop .inv) (c .loop-test .left)
 

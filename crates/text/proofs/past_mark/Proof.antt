@@ -7,31 +7,24 @@ use borrow.Author.Needs.{needs}
 use Rattle.text.proofs.past_mark.Statement.{statement}
 use Rattle.text.proofs.past_mark.Tie as tie
 
--- src/lib.rt:84:9
 returns : tie.Need-returns
 returns c = stays-end _ _ _ (c .before .before .pre) (c .if1 .taken)
 
--- src/lib.rt:86:8
 mark-at-requires : tie.Need-mark-at-requires
 mark-at-requires c κs = search needs
 
--- src/lib.rt:87:9
 returns-2 : tie.Need-returns-2
 returns-2 c = stays _ _ _ _ (c .before .before .before .before .pre) (c .before .mark-at .ensures) (c .if2 .taken)
 
--- src/lib.rt:89:9
 line-end-requires : tie.Need-line-end-requires
 line-end-requires c κs = search needs
 
--- src/lib.rt:90:23
 after-line-requires : tie.Need-after-line-requires
 after-line-requires c κs = let k = c .before .before .before in omega (arith, place-within isLineFeed (now (k .before .before .args .text)) (k .before .before .args .at) (omega (arith, k .if1 .left)), c .line-end .ensures)
 
--- src/lib.rt:90:5
 next-marker-requires : tie.Need-next-marker-requires
 next-marker-requires c κs = c .after-line .ensures .within
 
--- src/lib.rt:79:1
 returns-3 : tie.Need-returns-3
 returns-3 c = let k = c .before .before .before .before .before in goes-past _ _ _ _ _ (c .before .before .line-end .ensures) (k .if1 .left) (k .before .before .pre (k .if1 .left)) (c .before .after-line .ensures) (c .next-marker .ensures) _ _ (c .before .before .before .before .mark-at .ensures) (c .before .before .before .if2 .left)
 

@@ -5,71 +5,54 @@ use borrow.Author.Needs.{needs}
 use Rattle.text.proofs.put_device.Statement.{statement}
 use Rattle.text.proofs.put_device.Tie as tie
 
--- src/lib.rt:151:14
 device-head-requires : tie.Need-device-head-requires
 device-head-requires c κs = search needs
 
--- src/lib.rt:151:5
 mul-out : tie.Need-mul-out
 mul-out c = search needs
 
--- src/lib.rt:151:5
 slice-write-out : tie.Need-slice-write-out
 slice-write-out c = search needs
 
--- src/lib.rt:152:9
 add-out : tie.Need-add-out
 add-out c = search needs
 
--- src/lib.rt:152:5
 mul-out-2 : tie.Need-mul-out-2
 mul-out-2 c = search needs
 
--- src/lib.rt:152:5
 slice-write-out-2 : tie.Need-slice-write-out-2
 slice-write-out-2 c = let k = c .before .before .before in simp length-set (omega (arith, k .pre .2))
 
--- src/lib.rt:153:18
 cast-out : tie.Need-cast-out
 cast-out c = search needs
 
--- src/lib.rt:153:9
 add-out-2 : tie.Need-add-out-2
 add-out-2 c = search needs
 
--- src/lib.rt:153:5
 mul-out-3 : tie.Need-mul-out-3
 mul-out-3 c = search needs
 
--- src/lib.rt:153:5
 slice-write-out-3 : tie.Need-slice-write-out-3
 slice-write-out-3 c = let k = c .before .before .before in simp length-set (omega (arith, k .pre .2))
 
--- src/lib.rt:154:18
 cast-out-2 : tie.Need-cast-out-2
 cast-out-2 c = search needs
 
--- src/lib.rt:154:9
 add-out-3 : tie.Need-add-out-3
 add-out-3 c = search needs
 
--- src/lib.rt:154:5
 mul-out-4 : tie.Need-mul-out-4
 mul-out-4 c = search needs
 
--- src/lib.rt:154:5
 slice-write-out-4 : tie.Need-slice-write-out-4
 slice-write-out-4 c = let k = c .before .before .before in simp length-set (omega (arith, k .pre .2))
 
--- src/lib.rt:155:5
 add-result : tie.Need-add-result
 add-result c = search needs
 
--- src/lib.rt:139:1
 same-length : tie.Need-same-length
 same-length c = search needs
 
--- src/lib.rt:139:1
 returns : tie.Need-returns
 returns c = put-device _ _ _ _ _ _ _ (c .before .before .before .pre .2) (c .device-head .ensures)
 

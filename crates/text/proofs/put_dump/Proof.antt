@@ -7,91 +7,69 @@ use borrow.Author.Needs.{needs}
 use Rattle.text.proofs.put_dump.Statement.{statement}
 use Rattle.text.proofs.put_dump.Tie as tie
 
--- src/lib.rt:173:9
 least-requires : tie.Need-least-requires
 least-requires c κs = search needs
 
--- src/lib.rt:174:28
 slice-relend-prefix-read : tie.Need-slice-relend-prefix-read
 slice-relend-prefix-read c = search needs
 
--- src/lib.rt:174:28
 slice-aggregate-read : tie.Need-slice-aggregate-read
 slice-aggregate-read c = sym (length-take-le _ _ (c .before .least .ensures .1))
 
--- src/lib.rt:174:50
 mul-read : tie.Need-mul-read
 mul-read c = search needs
 
--- src/lib.rt:174:50
 sub-read : tie.Need-sub-read
 sub-read c = search needs
 
--- src/lib.rt:174:50
 part-read-start : tie.Need-part-read-start
 part-read-start c = search needs
 
--- src/lib.rt:174:50
 part-read-end : tie.Need-part-read-end
 part-read-end c = search needs
 
--- src/lib.rt:174:11
 read-requires : tie.Need-read-requires
 read-requires c κs = search needs
 
--- src/lib.rt:175:23
 enum-known-n : tie.Need-enum-known-n
 enum-known-n c = search needs
 
--- src/lib.rt:175:33
 mul-result : tie.Need-mul-result
 mul-result c = let d = c .before .before .before .before .before .before .before in let s = d .before .before .before .before .before .before .before in omega (arith, (dump-put (now (s .args .body)) (now (s .args .scratch)) (now (s .args .out)) (s .args .k) (d .before .before .before .least .result) (s .pre .0) (s .pre .1) (d .before .before .before .least .ensures .2 _ (record-room (now (s .args .body))) (s .pre .2)) (d .before .before .before .least .ensures .1) (d .read .ensures) _ (c .before .n .given .1)) .0, s .good)
 
--- src/lib.rt:175:29
 add-result : tie.Need-add-result
 add-result c = let d = c .before .before .before .before .before .before .before in let s = d .before .before .before .before .before .before .before in omega (arith, (dump-put (now (s .args .body)) (now (s .args .scratch)) (now (s .args .out)) (s .args .k) (d .before .before .before .least .result) (s .pre .0) (s .pre .1) (d .before .before .before .least .ensures .2 _ (record-room (now (s .args .body))) (s .pre .2)) (d .before .before .before .least .ensures .1) (d .read .ensures) _ (c .before .n .given .1)) .0, s .good)
 
--- src/lib.rt:176:30
 enum-told : tie.Need-enum-told
 enum-told c = search needs
 
--- src/lib.rt:177:27
 enum-told-2 : tie.Need-enum-told-2
 enum-told-2 c = search needs
 
--- src/lib.rt:169:1
 same-length : tie.Need-same-length
 same-length c = search needs
 
--- src/lib.rt:169:1
 same-length-2 : tie.Need-same-length-2
 same-length-2 c = search needs
 
--- src/lib.rt:169:1
 returns : tie.Need-returns
 returns c = let d = c .before .before .before .before .before .before .before in let s = d .before .before .before .before .before .before .before in (dump-put (now (s .args .body)) (now (s .args .scratch)) (now (s .args .out)) (s .args .k) (d .before .before .before .least .result) (s .pre .0) (s .pre .1) (d .before .before .before .least .ensures .2 _ (record-room (now (s .args .body))) (s .pre .2)) (d .before .before .before .least .ensures .1) (d .read .ensures) _ (c .before .n .given .1)) .1
 
--- src/lib.rt:169:1
 same-length-3 : tie.Need-same-length-3
 same-length-3 c = search needs
 
--- src/lib.rt:169:1
 same-length-4 : tie.Need-same-length-4
 same-length-4 c = search needs
 
--- src/lib.rt:169:1
 returns-2 : tie.Need-returns-2
 returns-2 c = let d = c .before .before .before .before .before .before in let s = d .before .before .before .before .before .before .before in absurd (no-high (now (s .args .body)) (now (s .args .scratch)) (now (s .args .out)) (s .args .k) (d .before .before .before .least .result) (s .pre .0) (s .pre .1) (d .before .before .before .least .ensures .2 _ (record-room (now (s .args .body))) (s .pre .2)) (d .before .before .before .least .ensures .1) (d .read .ensures) _ (c .enum-told .given .1))
 
--- src/lib.rt:169:1
 same-length-5 : tie.Need-same-length-5
 same-length-5 c = search needs
 
--- src/lib.rt:169:1
 same-length-6 : tie.Need-same-length-6
 same-length-6 c = search needs
 
--- src/lib.rt:169:1
 returns-3 : tie.Need-returns-3
 returns-3 c = let d = c .before .before .before .before .before .before in let s = d .before .before .before .before .before .before .before in absurd (no-short (now (s .args .body)) (now (s .args .scratch)) (now (s .args .out)) (s .args .k) (d .before .before .before .least .result) (s .pre .0) (s .pre .1) (d .before .before .before .least .ensures .2 _ (record-room (now (s .args .body))) (s .pre .2)) (d .before .before .before .least .ensures .1) (d .read .ensures) _ (c .enum-told2 .given .1))
 

@@ -10,143 +10,111 @@ use borrow.Author.Needs.{needs}
 use Rattle.text.proofs.put_section.Statement.{statement}
 use Rattle.text.proofs.put_section.Tie as tie
 
--- src/lib.rt:216:11
 marker-requires : tie.Need-marker-requires
 marker-requires c κs = search needs
 
--- src/lib.rt:217:24
 enum-known-domain : tie.Need-enum-known-domain
 enum-known-domain c = search needs
 
--- src/lib.rt:217:43
 put-device-requires : tie.Need-put-device-requires
 unfolding markerBy
 put-device-requires c κs = let s = c .before .before .before .before .before .before .before .before .before .before in (s .pre .0, omega arith, omega (arith, s .pre .2, ap length (body-router (now (s .args .line)) (now (s .args .body)) (sectionsFrom (now (s .args .text)) (s .args .next)) _ _ (ap markerBy (sym (c .before .before .domain .given .1)) ∙ c .before .before .before .before .marker .ensures)), device-four 1 (c .before .before .domain .given .0 .0) (c .before .before .domain .given .0 .1 .0) (sectionsFrom (now (s .args .text)) (s .args .next))))
 
--- src/lib.rt:218:25
 enum-known-domain-2 : tie.Need-enum-known-domain-2
 enum-known-domain-2 c = search needs
 
--- src/lib.rt:218:44
 put-device-requires-2 : tie.Need-put-device-requires-2
 unfolding markerBy
 put-device-requires-2 c κs = let s = c .before .before .before .before .before .before .before .before .before .before in (s .pre .0, omega arith, omega (arith, s .pre .2, ap length (body-xdomain (now (s .args .line)) (now (s .args .body)) (sectionsFrom (now (s .args .text)) (s .args .next)) _ _ (ap markerBy (sym (c .before .before .domain2 .given .1)) ∙ c .before .before .before .before .marker .ensures)), device-four 2 (c .before .before .domain2 .given .0 .0) (c .before .before .domain2 .given .0 .1 .0) (sectionsFrom (now (s .args .text)) (s .args .next))))
 
--- src/lib.rt:219:38
 enum-told : tie.Need-enum-told
 enum-told c = search needs
 
--- src/lib.rt:219:23
 put-dump-requires : tie.Need-put-dump-requires
 unfolding markerBy
 put-dump-requires c κs = let s = c .before .before .before .before .before .before .before .before .before .before in (s .pre .1, omega (arith, s .pre .2, ap length (body-regs (now (s .args .line)) (now (s .args .body)) (sectionsFrom (now (s .args .text)) (s .args .next)) (ap markerBy (sym (c .before .before .enum-told .given .1)) ∙ c .before .before .before .before .marker .ensures))), omega (arith, s .pre .3, ap length (body-regs (now (s .args .line)) (now (s .args .body)) (sectionsFrom (now (s .args .text)) (s .args .next)) (ap markerBy (sym (c .before .before .enum-told .given .1)) ∙ c .before .before .before .before .marker .ensures))))
 
--- src/lib.rt:220:23
 enum-known-number : tie.Need-enum-known-number
 enum-known-number c = search needs
 
--- src/lib.rt:221:22
 adapter-head-requires : tie.Need-adapter-head-requires
 adapter-head-requires c κs = search needs
 
--- src/lib.rt:221:13
 mul-out : tie.Need-mul-out
 mul-out c = search needs
 
--- src/lib.rt:221:13
 slice-write-out : tie.Need-slice-write-out
 unfolding markerBy
 slice-write-out c = let s = c .before .before .before .before .before .before .before .before .before .before in omega (arith, s .pre .2, ap length (body-adapter (now (s .args .line)) (now (s .args .body)) (sectionsFrom (now (s .args .text)) (s .args .next)) _ (ap markerBy (sym (c .before .before .number .given .1)) ∙ c .before .before .before .before .marker .ensures)))
 
--- src/lib.rt:222:13
 add-result : tie.Need-add-result
 add-result c = search needs
 
--- src/lib.rt:224:40
 enum-told-2 : tie.Need-enum-told-2
 enum-told-2 c = search needs
 
--- src/lib.rt:224:24
 put-paths-requires : tie.Need-put-paths-requires
 unfolding markerBy
 put-paths-requires c κs = let s = c .before .before .before .before .before .before .before .before .before .before in (s .pre .1, omega (arith, s .pre .2, ap length (body-paths (now (s .args .line)) (now (s .args .body)) (sectionsFrom (now (s .args .text)) (s .args .next)) (ap markerBy (sym (c .before .before .enum-told2 .given .1)) ∙ c .before .before .before .before .marker .ensures))), omega (arith, s .pre .3, ap length (body-paths (now (s .args .line)) (now (s .args .body)) (sectionsFrom (now (s .args .text)) (s .args .next)) (ap markerBy (sym (c .before .before .enum-told2 .given .1)) ∙ c .before .before .before .before .marker .ensures))))
 
--- src/lib.rt:225:23
 enum-told-3 : tie.Need-enum-told-3
 enum-told-3 c = search needs
 
--- src/lib.rt:226:26
 enum-told-4 : tie.Need-enum-told-4
 enum-told-4 c = search needs
 
--- src/lib.rt:227:22
 enum-told-5 : tie.Need-enum-told-5
 enum-told-5 c = search needs
 
--- src/lib.rt:204:1
 same-length : tie.Need-same-length
 same-length c = search needs
 
--- src/lib.rt:204:1
 returns : tie.Need-returns
 unfolding markerBy
 returns c = let s = c .before .before .before .before .before .before .before .before .before .before .before .before .before in put-as (body-router (now (s .args .line)) (now (s .args .body)) (sectionsFrom (now (s .args .text)) (s .args .next)) _ _ (ap markerBy (sym (c .before .before .before .before .before .domain .given .1)) ∙ c .before .before .before .before .before .before .before .marker .ensures)) (c .before .before .put-device .ensures)
 
--- src/lib.rt:204:1
 same-length-2 : tie.Need-same-length-2
 same-length-2 c = search needs
 
--- src/lib.rt:204:1
 returns-2 : tie.Need-returns-2
 unfolding markerBy
 returns-2 c = let s = c .before .before .before .before .before .before .before .before .before .before .before .before .before in put-as (body-xdomain (now (s .args .line)) (now (s .args .body)) (sectionsFrom (now (s .args .text)) (s .args .next)) _ _ (ap markerBy (sym (c .before .before .before .before .before .domain2 .given .1)) ∙ c .before .before .before .before .before .before .before .marker .ensures)) (c .before .before .put-device2 .ensures)
 
--- src/lib.rt:204:1
 same-length-3 : tie.Need-same-length-3
 same-length-3 c = search needs
 
--- src/lib.rt:204:1
 same-length-4 : tie.Need-same-length-4
 same-length-4 c = search needs
 
--- src/lib.rt:204:1
 returns-3 : tie.Need-returns-3
 unfolding markerBy
 returns-3 c = let s = c .before .before .before .before .before .before .before .before .before .before .before .before .before .before .before in put-as (body-regs (now (s .args .line)) (now (s .args .body)) (sectionsFrom (now (s .args .text)) (s .args .next)) (ap markerBy (sym (c .before .before .before .before .before .before .before .enum-told .given .1)) ∙ c .before .before .before .before .before .before .before .before .before .marker .ensures)) (c .before .before .before .before .put-dump .ensures)
 
--- src/lib.rt:204:1
 same-length-5 : tie.Need-same-length-5
 same-length-5 c = search needs
 
--- src/lib.rt:204:1
 returns-4 : tie.Need-returns-4
 unfolding markerBy
 returns-4 c = let s = c .before .before .before .before .before .before .before .before .before .before in put-as (body-adapter (now (s .args .line)) (now (s .args .body)) (sectionsFrom (now (s .args .text)) (s .args .next)) _ (ap markerBy (sym (c .before .before .number .given .1)) ∙ c .before .before .before .before .marker .ensures)) (put-adapter _ _ _ _ _ (omega (arith, s .pre .2, ap length (body-adapter (now (s .args .line)) (now (s .args .body)) (sectionsFrom (now (s .args .text)) (s .args .next)) _ (ap markerBy (sym (c .before .before .number .given .1)) ∙ c .before .before .before .before .marker .ensures)))) (c .adapter-head .ensures))
 
--- src/lib.rt:204:1
 same-length-6 : tie.Need-same-length-6
 same-length-6 c = search needs
 
--- src/lib.rt:204:1
 same-length-7 : tie.Need-same-length-7
 same-length-7 c = search needs
 
--- src/lib.rt:204:1
 returns-5 : tie.Need-returns-5
 unfolding markerBy
 returns-5 c = let s = c .before .before .before .before .before .before .before .before .before .before .before .before .before .before .before in put-as (body-paths (now (s .args .line)) (now (s .args .body)) (sectionsFrom (now (s .args .text)) (s .args .next)) (ap markerBy (sym (c .before .before .before .before .before .before .before .enum-told2 .given .1)) ∙ c .before .before .before .before .before .before .before .before .before .marker .ensures)) (c .before .before .before .before .put-paths .ensures)
 
--- src/lib.rt:204:1
 returns-6 : tie.Need-returns-6
 unfolding markerBy
 returns-6 c = let s = c .before .before .before .before .before .before .before .before in put-nothing (body-usb4 (now (s .args .line)) (now (s .args .body)) (sectionsFrom (now (s .args .text)) (s .args .next)) (ap markerBy (sym (c .enum-told3 .given .1)) ∙ c .before .before .marker .ensures))
 
--- src/lib.rt:204:1
 returns-7 : tie.Need-returns-7
 unfolding markerBy
 returns-7 c = let s = c .before .before .before .before .before .before .before .before in put-nothing (body-nopaths (now (s .args .line)) (now (s .args .body)) (sectionsFrom (now (s .args .text)) (s .args .next)) (ap markerBy (sym (c .enum-told4 .given .1)) ∙ c .before .before .marker .ensures))
 
--- src/lib.rt:204:1
 returns-8 : tie.Need-returns-8
 unfolding markerBy
 returns-8 c = let s = c .before .before .before .before .before .before .before .before in put-nothing (body-bad (now (s .args .line)) (now (s .args .body)) (sectionsFrom (now (s .args .text)) (s .args .next)) (ap markerBy (sym (c .enum-told5 .given .1)) ∙ c .before .before .marker .ensures))

@@ -18,71 +18,54 @@ Inv-loop text scratch₀ out₀ k₀ at₀ scratch out k at = (length scratch �
 abbrev μ-loop : tie.MeasureT-loop
 μ-loop text scratch₀ out₀ k₀ at₀ scratch out k at = length text - at
 
--- src/lib.rt:237:9
 next-marker-requires : tie.Need-next-marker-requires Inv-loop μ-loop
 next-marker-requires c κs = omega arith
 
--- src/lib.rt:238:5
 loop-holds : tie.Need-loop-holds Inv-loop μ-loop
 loop-holds c = let s = c .before .before .before .before in (refl, going-start _ _ _ _ (s .pre .1) (s .pre .2) (c .next-marker .ensures))
 
--- src/lib.rt:239:13
 line-end-requires : tie.Need-line-end-requires Inv-loop μ-loop
 line-end-requires c κs = search needs
 
--- src/lib.rt:240:13
 after-line-requires : tie.Need-after-line-requires Inv-loop μ-loop
 after-line-requires c κs = let l = c .before .before in omega (arith, place-within isLineFeed (now (l .before .before .before .before .before .args .text)) (l .loop .at) (omega (arith, c .before .loop-test .taken)), c .line-end .ensures)
 
--- src/lib.rt:241:13
 next-marker-requires-2 : tie.Need-next-marker-requires-2 Inv-loop μ-loop
 next-marker-requires-2 c κs = c .after-line .ensures .within
 
--- src/lib.rt:243:13
 sub-put-section : tie.Need-sub-put-section Inv-loop μ-loop
 sub-put-section c = let l = c .before .before .before .before in omega (arith, place-above isLineFeed (now (l .before .before .before .before .before .args .text)) (l .loop .at), c .before .before .line-end .ensures)
 
--- src/lib.rt:243:13
 part-put-section-start : tie.Need-part-put-section-start Inv-loop μ-loop
 part-put-section-start c = let l = c .before .before .before .before in omega (arith, place-above isLineFeed (now (l .before .before .before .before .before .args .text)) (l .loop .at), place-within isLineFeed (now (l .before .before .before .before .before .args .text)) (l .loop .at) (omega (arith, c .before .before .before .loop-test .taken)), c .before .before .line-end .ensures)
 
--- src/lib.rt:243:13
 part-put-section-end : tie.Need-part-put-section-end Inv-loop μ-loop
 part-put-section-end c = let l = c .before .before .before .before in omega (arith, place-above isLineFeed (now (l .before .before .before .before .before .args .text)) (l .loop .at), place-within isLineFeed (now (l .before .before .before .before .before .args .text)) (l .loop .at) (omega (arith, c .before .before .before .loop-test .taken)), c .before .before .line-end .ensures)
 
--- src/lib.rt:244:13
 sub-put-section-2 : tie.Need-sub-put-section-2 Inv-loop μ-loop
 sub-put-section-2 c = omega (arith, c .before .next-marker2 .ensures .above, c .before .next-marker2 .ensures .within)
 
--- src/lib.rt:244:13
 part-put-section-start-2 : tie.Need-part-put-section-start-2 Inv-loop μ-loop
 part-put-section-start-2 c = omega (arith, c .before .next-marker2 .ensures .above, c .before .next-marker2 .ensures .within)
 
--- src/lib.rt:244:13
 part-put-section-end-2 : tie.Need-part-put-section-end-2 Inv-loop μ-loop
 part-put-section-end-2 c = omega (arith, c .before .next-marker2 .ensures .above, c .before .next-marker2 .ensures .within)
 
--- src/lib.rt:242:9
 put-section-requires : tie.Need-put-section-requires Inv-loop μ-loop
 put-section-requires c κs = let n = c .before .before .before .before in let l = n .before .before .before .before in let s = l .before .before .before .before .before in let f = body-fits _ _ _ _ _ _ _ _ _ (l .loop .inv .1) (n .before .before .line-end .ensures) (n .before .before .before .loop-test .taken) (n .before .after-line .ensures) (n .next-marker2 .ensures) in (n .next-marker2 .ensures .stands, low-part (now (s .args .text)) (n .before .after-line .result) (n .next-marker2 .result - n .before .after-line .result) (s .pre .0), f .0, omega (arith, f .1, l .loop .inv .0))
 
--- src/lib.rt:238:5
 loop-less : tie.Need-loop-less Inv-loop μ-loop
 loop-less c = let n = c .before .before .before .before .before .before .before .before .before in let l = n .before .before .before .before in omega (arith, n .next-marker2 .ensures .above, n .next-marker2 .ensures .within, n .before .after-line .ensures .above, is-marker _ _ _ (n .before .before .line-end .ensures) (n .before .before .before .loop-test .taken) (l .loop .inv .1 .stands (n .before .before .before .loop-test .taken)) .0, n .before .before .before .loop-test .taken)
 
--- src/lib.rt:238:5
 loop-again : tie.Need-loop-again Inv-loop μ-loop
 loop-again c = let n = c .before .before .before .before .before .before .before .before .before in let l = n .before .before .before .before in (c .before .before .before .before .put-section .kept .1 .1 .1 .1 .0 ∙ l .loop .inv .0, going-step _ _ _ _ _ _ _ _ _ (l .loop .inv .1) (n .before .before .line-end .ensures) (n .before .before .before .loop-test .taken) (n .before .after-line .ensures) (n .next-marker2 .ensures) _ _ (c .before .before .before .before .put-section .ensures))
 
--- src/lib.rt:232:1
 same-length : tie.Need-same-length Inv-loop μ-loop
 same-length c = c .before .loop .inv .0
 
--- src/lib.rt:232:1
 same-length-2 : tie.Need-same-length-2 Inv-loop μ-loop
 same-length-2 c = c .before .loop .inv .1 .long
 
--- src/lib.rt:232:1
 returns : tie.Need-returns Inv-loop μ-loop
 returns c = going-end _ _ _ _ _ _ (c .before .loop .inv .1) (c .loop-test .left)
 

@@ -7,60 +7,47 @@ use borrow.Author.Needs.{needs}
 use Rattle.text.proofs.read.Statement.{statement}
 use Rattle.text.proofs.read.Tie as tie
 
--- src/lib.rt:261:11
 check-requires : tie.Need-check-requires
 check-requires c κs = search needs
 
--- src/lib.rt:262:23
 enum-known-n : tie.Need-enum-known-n
 enum-known-n c = search needs
 
--- src/lib.rt:263:27
 enum-known-p : tie.Need-enum-known-p
 enum-known-p c = search needs
 
--- src/lib.rt:264:24
 enum-known-p-2 : tie.Need-enum-known-p-2
 enum-known-p-2 c = search needs
 
--- src/lib.rt:265:24
 enum-known-n-2 : tie.Need-enum-known-n-2
 enum-known-n-2 c = search needs
 
--- src/lib.rt:267:17
 returns : tie.Need-returns
 unfolding checkOutcome textOutcome
 returns c = too-short _ _ _ (sym (ap checkOutcome (c .before .before .n2 .given .1)) ∙ c .before .before .before .before .check .ensures) (c .if1 .taken)
 
--- src/lib.rt:270:32
 slice-aggregate-put-sections : tie.Need-slice-aggregate-put-sections
 slice-aggregate-put-sections c = search needs
 
--- src/lib.rt:270:13
 put-sections-requires : tie.Need-put-sections-requires
 unfolding checkOutcome textOutcome
 put-sections-requires c κs = let e = (sym (ap checkOutcome (c .before .before .before .before .n2 .given .1)) ∙ c .before .before .before .before .before .before .check .ensures) in let r = room _ (now (c .before .before .before .before .before .before .before .before .before .args .output)) _ e (c .before .before .if1 .left) in (accepted _ (now (c .before .before .before .before .before .before .before .before .before .args .output)) _ e .low, r .0, r .1)
 
--- src/lib.rt:258:1
 returns-2 : tie.Need-returns-2
 unfolding checkOutcome textOutcome
 returns-2 c = refusing _ _ _ _ _ (sym (ap checkOutcome (c .before .n .given .1)) ∙ c .before .before .before .check .ensures) refl
 
--- src/lib.rt:258:1
 returns-3 : tie.Need-returns-3
 unfolding checkOutcome textOutcome
 returns-3 c = refusing _ _ _ _ _ (sym (ap checkOutcome (c .before .p .given .1)) ∙ c .before .before .before .check .ensures) refl
 
--- src/lib.rt:258:1
 returns-4 : tie.Need-returns-4
 unfolding checkOutcome textOutcome
 returns-4 c = refusing _ _ _ _ _ (sym (ap checkOutcome (c .before .p2 .given .1)) ∙ c .before .before .before .check .ensures) refl
 
--- src/lib.rt:258:1
 same-length : tie.Need-same-length
 same-length c = search needs
 
--- src/lib.rt:258:1
 returns-5 : tie.Need-returns-5
 unfolding checkOutcome textOutcome
 returns-5 c = all-written _ _ _ (sym (ap checkOutcome (c .before .before .before .before .before .before .before .before .n2 .given .1)) ∙ c .before .before .before .before .before .before .before .before .before .before .check .ensures) (c .before .before .before .before .before .before .if1 .left) _ (c .before .before .before .put-sections .ensures)

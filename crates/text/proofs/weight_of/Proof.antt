@@ -4,12 +4,10 @@ use borrow.Author.Tests.{eq-eqb, ne-eqb}
 use Rattle.text.proofs.weight_of.Statement.{statement}
 use Rattle.text.proofs.weight_of.Tie as tie
 
--- src/lib.rt:98:9
 returns : tie.Need-returns
 unfolding bit
 returns c = simp (eq-eqb (c .before .args .mark) (c .before .args .sought) (c .if1 .taken)) (omega arith)
 
--- src/lib.rt:94:1
 returns-2 : tie.Need-returns-2
 unfolding bit
 returns-2 c = simp (ne-eqb (c .before .args .mark) (c .before .args .sought) (c .if1 .left)) (omega arith)

@@ -4,43 +4,33 @@ use Rattle.tunnel.proofs.Planning.{video-refused, video-absent, video-p
 use Rattle.tunnel.proofs.display_port.Statement.{statement}
 use Rattle.tunnel.proofs.display_port.Tie as tie
 
--- src/lib.rt:210:11
 tally-requires : tie.Need-tally-requires
 tally-requires c κs = search needs
 
--- src/lib.rt:211:25
 enum-known-refusal : tie.Need-enum-known-refusal
 enum-known-refusal c = search needs
 
--- src/lib.rt:212:27
 enum-told : tie.Need-enum-told
 enum-told c = search needs
 
--- src/lib.rt:214:13
 enum-known-hops : tie.Need-enum-known-hops
 enum-known-hops c = search needs
 
--- src/lib.rt:225:17
 path-words-requires : tie.Need-path-words-requires
 path-words-requires c κs = search needs
 
--- src/lib.rt:225:13
 add-aux : tie.Need-add-aux
 add-aux c = search needs
 
--- src/lib.rt:218:14
 aux-requires : tie.Need-aux-requires
 aux-requires c κs = search needs
 
--- src/lib.rt:199:1
 returns : tie.Need-returns
 returns c = video-refused _ _ _ _ _ _ _ (c .before .before .before .tally .ensures) _ (c .before .refusal .given .1)
 
--- src/lib.rt:199:1
 returns-2 : tie.Need-returns-2
 returns-2 c = video-absent _ _ _ _ _ _ _ (c .before .before .tally .ensures) (c .enum-told .given .1)
 
--- src/lib.rt:199:1
 returns-3 : tie.Need-returns-3
 returns-3 c = let g = c .before .before .before in
     video-path _ _ _ _ _ _ _ (g .before .before .tally .ensures) _ _ _ _ _ _ (g .hops .given .1) (c .before .path-words .ensures) (c .aux .ensures)

@@ -4,19 +4,15 @@ use Rattle.tunnel.proofs.Planning.{one-answer}
 use Rattle.tunnel.proofs.one_path.Statement.{statement}
 use Rattle.tunnel.proofs.one_path.Tie as tie
 
--- src/lib.rt:239:16
 starting-requires : tie.Need-starting-requires
 starting-requires c κs = search needs
 
--- src/lib.rt:240:17
 starting-requires-2 : tie.Need-starting-requires-2
 starting-requires-2 c κs = search needs
 
--- src/lib.rt:241:16
 starting-requires-3 : tie.Need-starting-requires-3
 starting-requires-3 c κs = search needs
 
--- src/lib.rt:231:1
 returns : tie.Need-returns
 returns c = one-answer _ _ (c .before .before .starting .ensures) (c .before .starting2 .ensures) (c .starting3 .ensures)
 

@@ -3,11 +3,9 @@ use borrow.Author.Tests.{eq-eqb, ne-eqb}
 use Rattle.tunnel.proofs.same.Statement.{statement}
 use Rattle.tunnel.proofs.same.Tie as tie
 
--- src/lib.rt:80:9
 returns : tie.Need-returns
 returns c = simp (eq-eqb _ _ (c .if1 .taken))
 
--- src/lib.rt:76:1
 returns-2 : tie.Need-returns-2
 returns-2 c = simp (ne-eqb _ _ (c .if1 .left))
 

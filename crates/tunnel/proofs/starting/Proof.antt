@@ -5,7 +5,6 @@ use Rattle.tunnel.specs.Work.{startBy}
 use Rattle.tunnel.proofs.starting.Statement.{statement}
 use Rattle.tunnel.proofs.starting.Tie as tie
 
--- src/lib.rt:58:1
 returns : tie.Need-returns
 unfolding startBy at
 returns c = refl

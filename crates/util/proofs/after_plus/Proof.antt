@@ -9,35 +9,28 @@ use borrow.Author.Needs.{needs}
 use Rattle.util.proofs.after_plus.Statement.{statement}
 use Rattle.util.proofs.after_plus.Tie as tie
 
--- src/lib.rt:57:9
 returns : tie.Need-returns
 unfolding afterPlus
 returns c = let s = now (c .before .args .s) in
     let h : length s ≤ 0 = omega arith in
     simp (List·getD-eq-default s 0 h)
 
--- src/lib.rt:59:8
 shared-slice-read-if2 : tie.Need-shared-slice-read-if2
 shared-slice-read-if2 c = search needs
 
--- src/lib.rt:60:9
 returns-2 : tie.Need-returns-2
 unfolding afterPlus
 returns-2 c = simp (ne-eqb _ _ (c .if2 .taken))
 
--- src/lib.rt:62:5
 sub-result : tie.Need-sub-result
 sub-result c = search needs
 
--- src/lib.rt:62:5
 part-result-start : tie.Need-part-result-start
 part-result-start c = search needs
 
--- src/lib.rt:62:5
 part-result-end : tie.Need-part-result-end
 part-result-end c = search needs
 
--- src/lib.rt:53:1
 returns-3 : tie.Need-returns-3
 unfolding afterPlus
 returns-3 c = let s = now (c .before .before .before .before .args .s) in

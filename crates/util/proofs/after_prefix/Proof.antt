@@ -10,44 +10,35 @@ use borrow.Author.Needs.{needs}
 use Rattle.util.proofs.after_prefix.Statement.{statement}
 use Rattle.util.proofs.after_prefix.Tie as tie
 
--- src/lib.rt:41:9
 returns : tie.Need-returns
 unfolding afterPrefix
 returns c = let s = now (c .before .args .s) in
     let h : length s ≤ 1 = omega arith in
     simp (List·getD-eq-default s 0 h, and-false)
 
--- src/lib.rt:43:8
 shared-slice-read-if2 : tie.Need-shared-slice-read-if2
 shared-slice-read-if2 c = search needs
 
--- src/lib.rt:44:9
 returns-2 : tie.Need-returns-2
 unfolding afterPrefix
 returns-2 c = simp (ne-eqb _ _ (c .if2 .taken))
 
--- src/lib.rt:46:8
 shared-slice-read-if3 : tie.Need-shared-slice-read-if3
 shared-slice-read-if3 c = search needs
 
--- src/lib.rt:47:9
 returns-3 : tie.Need-returns-3
 unfolding afterPrefix
 returns-3 c = simp (eq-eqb _ _ (c .before .before .if2 .left), ne-eqb _ _ (c .if3 .taken))
 
--- src/lib.rt:49:5
 sub-result : tie.Need-sub-result
 sub-result c = search needs
 
--- src/lib.rt:49:5
 part-result-start : tie.Need-part-result-start
 part-result-start c = search needs
 
--- src/lib.rt:49:5
 part-result-end : tie.Need-part-result-end
 part-result-end c = search needs
 
--- src/lib.rt:37:1
 returns-4 : tie.Need-returns-4
 unfolding afterPrefix
 returns-4 c = let s = now (c .before .before .before .before .before .before .args .s) in

@@ -9,40 +9,31 @@ use borrow.Author.Needs.{needs}
 use Rattle.util.proofs.bits.Statement.{statement}
 use Rattle.util.proofs.bits.Tie as tie
 
--- src/lib.rt:119:9
 returns : tie.Need-returns
 returns c = sym (bits-past _ _ _ (c .before .fits .word .fits) (c .if1 .taken))
 
--- src/lib.rt:122:9
 returns-2 : tie.Need-returns-2
 returns-2 c = sym (bits-none _ _ _ (c .if2 .taken))
 
--- src/lib.rt:124:16
 shr-high : tie.Need-shr-high
 shr-high c = search needs
 
--- src/lib.rt:126:9
 returns-3 : tie.Need-returns-3
 returns-3 c = sym (bits-top _ _ _ (c .before .before .before .fits .word .fits) (c .if3 .taken) (omega arith))
 
--- src/lib.rt:128:25
 add-size : tie.Need-add-size
 add-size c = search needs
 
--- src/lib.rt:128:25
 sub-size : tie.Need-sub-size
 sub-size c = search needs
 
--- src/lib.rt:128:16
 shl-size : tie.Need-shl-size
 shl-size c = search needs
 
--- src/lib.rt:129:5
 rem-result : tie.Need-rem-result
 rem-result c = let k = c .before .before .before .args .end + 1 - c .before .before .before .args .start in
     rw (shl-exact {a = 1} 1 k 32 (omega arith) (omega arith), one-mul) (pow-pos k)
 
--- src/lib.rt:115:1
 returns-4 : tie.Need-returns-4
 unfolding bitsOf
 returns-4 c = let k = c .before .before .before .args .end + 1 - c .before .before .before .args .start in

@@ -16,35 +16,28 @@ Inv-loop s base max most v₀ i₀ v i = (i ≤ length s) × (v ≤ max) × (num
 abbrev μ-loop : tie.MeasureT-loop
 μ-loop s base max most v₀ i₀ v i = length s - i
 
--- src/lib.rt:77:9
 returns : tie.Need-returns Inv-loop μ-loop
 unfolding numberOf
 returns c = simp (le-ltb 0 (length (now (c .before .before .args .s))) (omega arith))
 
--- src/lib.rt:79:16
 div-most : tie.Need-div-most Inv-loop μ-loop
 div-most c = omega arith
 
--- src/lib.rt:82:5
 loop-holds : tie.Need-loop-holds Inv-loop μ-loop
 loop-holds c = (omega arith, omega arith, rest-start _ (omega arith) _ 0 _ 0 (omega arith))
 
--- src/lib.rt:83:23
 shared-slice-read-digit : tie.Need-shared-slice-read-digit Inv-loop μ-loop
 shared-slice-read-digit c = omega arith
 
--- src/lib.rt:83:13
 digit-requires : tie.Need-digit-requires Inv-loop μ-loop
 digit-requires c κs = search needs
 
--- src/lib.rt:85:13
 returns-2 : tie.Need-returns-2 Inv-loop μ-loop
 returns-2 c = let a = c .before .before .before .before .before .before .before .args in
     let l = c .before .before .before .before .loop in
     let d : digitOf (getD (now (a .s)) (l .i) 0) ≡ c .before .digit .result = sym (c .before .digit .ensures) in
     sym (l .inv .2 ∙ rest-bad (a .base) (omega arith) (a .max) (l .v) (now (a .s)) (l .i) (omega arith) (omega arith))
 
--- src/lib.rt:88:13
 returns-3 : tie.Need-returns-3 Inv-loop μ-loop
 returns-3 c = let a = c .before .before .before .before .before .before .before .before .args in
     let l = c .before .before .before .before .before .loop in
@@ -52,37 +45,30 @@ returns-3 c = let a = c .before .before .before .before .before .before .before 
     let p : 0 < a .base = omega arith in
     sym (l .inv .2 ∙ rest-over (a .base) p (a .max) (l .v) (now (a .s)) (l .i) (omega arith) (omega arith) (omega (arith, past-base p (c .if3 .taken))))
 
--- src/lib.rt:90:23
 mul-shifted : tie.Need-mul-shifted Inv-loop μ-loop
 mul-shifted c = let p : 0 < c .before .before .before .before .before .before .before .before .args .base = omega arith in
     omega (arith, fits-base p (c .if3 .left))
 
--- src/lib.rt:91:12
 sub-if4 : tie.Need-sub-if4 Inv-loop μ-loop
 sub-if4 c = let p : 0 < c .before .before .before .before .before .before .before .before .args .base = omega arith in
     omega (arith, fits-base p (c .if3 .left))
 
--- src/lib.rt:92:13
 returns-4 : tie.Need-returns-4 Inv-loop μ-loop
 returns-4 c = let a = c .before .before .before .before .before .before .before .before .before .args in
     let l = c .before .before .before .before .before .before .loop in
     let d : digitOf (getD (now (a .s)) (l .i) 0) ≡ c .before .before .before .digit .result = sym (c .before .before .before .digit .ensures) in
     sym (l .inv .2 ∙ rest-over (a .base) (omega arith) (a .max) (l .v) (now (a .s)) (l .i) (omega arith) (omega arith) (omega arith))
 
--- src/lib.rt:94:13
 add-v : tie.Need-add-v Inv-loop μ-loop
 add-v c = let p : 0 < c .before .before .before .before .before .before .before .before .before .args .base = omega arith in
     omega (arith, fits-base p (c .before .if3 .left))
 
--- src/lib.rt:95:9
 add-i : tie.Need-add-i Inv-loop μ-loop
 add-i c = omega arith
 
--- src/lib.rt:82:5
 loop-less : tie.Need-loop-less Inv-loop μ-loop
 loop-less c = omega arith
 
--- src/lib.rt:82:5
 loop-again : tie.Need-loop-again Inv-loop μ-loop
 loop-again c = let a = c .before .before .before .before .before .before .before .before .before .args in
     let l = c .before .before .before .before .before .before .loop in
@@ -90,7 +76,6 @@ loop-again c = let a = c .before .before .before .before .before .before .before
     let p : 0 < a .base = omega arith in
     (omega arith, omega (arith, fits-base p (c .before .if3 .left)), l .inv .2 ∙ rest-step (a .base) p (a .max) (l .v) (now (a .s)) (l .i) (omega arith) (omega arith) ∙ ap (λ x. rest (a .base) (a .max) (l .v * a .base + x) (drop (l .i + 1) (now (a .s)))) d)
 
--- src/lib.rt:72:1
 returns-5 : tie.Need-returns-5 Inv-loop μ-loop
 returns-5 c = let a = c .before .before .before .before .args in
     let l = c .before .loop in

@@ -4,15 +4,12 @@ use borrow.Author.Needs.{needs}
 use Rattle.util.proofs.parse_decimal.Statement.{statement}
 use Rattle.util.proofs.parse_decimal.Tie as tie
 
--- src/lib.rt:111:12
 after-plus-requires : tie.Need-after-plus-requires
 after-plus-requires c κs = search needs
 
--- src/lib.rt:111:5
 digits-requires : tie.Need-digits-requires
 digits-requires c κs = search needs
 
--- src/lib.rt:108:1
 returns : tie.Need-returns
 unfolding decimalNumber
 returns c = c .digits .ensures ∙ ap (λ t. numberOf 10 (c .before .before .before .args .max) t) (c .before .after-plus .ensures)

@@ -4,19 +4,15 @@ use borrow.Author.Needs.{needs}
 use Rattle.util.proofs.parse_hex.Statement.{statement}
 use Rattle.util.proofs.parse_hex.Tie as tie
 
--- src/lib.rt:104:23
 after-prefix-requires : tie.Need-after-prefix-requires
 after-prefix-requires c κs = search needs
 
--- src/lib.rt:104:12
 after-plus-requires : tie.Need-after-plus-requires
 after-plus-requires c κs = search needs
 
--- src/lib.rt:104:5
 digits-requires : tie.Need-digits-requires
 digits-requires c κs = search needs
 
--- src/lib.rt:101:1
 returns : tie.Need-returns
 unfolding hexNumber
 returns c = c .digits .ensures ∙ ap (λ t. numberOf 16 (c .before .before .before .before .args .max) t) (c .before .after-plus .ensures ∙ ap afterPlus (c .before .before .after-prefix .ensures))

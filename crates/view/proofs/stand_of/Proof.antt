@@ -9,15 +9,12 @@ use borrow.Author.Needs.{needs}
 use Rattle.view.proofs.stand_of.Statement.{statement}
 use Rattle.view.proofs.stand_of.Tie as tie
 
--- src/lib.rt:24:34
 check-requires : tie.Need-check-requires
 check-requires c κs = search needs
 
--- src/lib.rt:24:29
 enum-known-p : tie.Need-enum-known-p
 enum-known-p c = search needs
 
--- src/lib.rt:25:9
 returns : tie.Need-returns
 unfolding checkedOutcome standOutcome
 returns c = let a = c .before .before .before .before .before .args in
@@ -26,25 +23,20 @@ returns c = let a = c .before .before .before .before .before .args in
 enum-told : tie.Need-enum-told
 enum-told c = search needs
 
--- src/lib.rt:27:11
 device-group-requires : tie.Need-device-group-requires
 device-group-requires c κs = search needs
 
--- src/lib.rt:28:23
 enum-known-start : tie.Need-enum-known-start
 enum-known-start c = search needs
 
--- src/lib.rt:29:28
 enum-told-2 : tie.Need-enum-told-2
 enum-told-2 c = search needs
 
--- src/lib.rt:21:1
 returns-2 : tie.Need-returns-2
 unfolding checkedOutcome standOutcome boundsBy
 returns-2 c = let a = c .before .before .before .before .before .before .before .before .args in
     place-then (now (a .survey)) (a .place) (placed.Group (c .before .start .given .0 .0) (c .before .start .given .0 .1 .0)) (ap checkedOutcome (sym (c .before .before .before .before .enum-told .given .1)) ∙ c .before .before .before .before .before .before .check .ensures) (sym (c .before .start .given .1) ∙ c .before .before .before .device-group .ensures)
 
--- src/lib.rt:21:1
 returns-3 : tie.Need-returns-3
 unfolding checkedOutcome standOutcome boundsBy
 returns-3 c = let a = c .before .before .before .before .before .before .before .args in

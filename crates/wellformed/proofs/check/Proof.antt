@@ -16,74 +16,57 @@ Inv-loop survey u₀ i₀ u i = (i ≤ length survey) × (firstBad 0 start (grou
 abbrev μ-loop : tie.MeasureT-loop
 μ-loop survey u₀ i₀ u i = length survey - i
 
--- src/lib.rt:144:9
 returns : tie.Need-returns Inv-loop μ-loop
 unfolding checkedOutcome
 returns c = too-long _ (c .if1 .taken)
 
--- src/lib.rt:148:5
 loop-holds : tie.Need-loop-holds Inv-loop μ-loop
 loop-holds c = (omega arith, refl)
 
--- src/lib.rt:149:17
 mul-w : tie.Need-mul-w Inv-loop μ-loop
 mul-w c = omega (arith, c .before .before .before .before .good)
 
--- src/lib.rt:149:17
 shared-slice-read-w : tie.Need-shared-slice-read-w Inv-loop μ-loop
 shared-slice-read-w c = omega arith
 
--- src/lib.rt:150:13
 group-size-requires : tie.Need-group-size-requires Inv-loop μ-loop
 group-size-requires c κs = search needs
 
--- src/lib.rt:151:12
 sub-if2 : tie.Need-sub-if2 Inv-loop μ-loop
 sub-if2 c = omega arith
 
--- src/lib.rt:152:13
 returns-2 : tie.Need-returns-2 Inv-loop μ-loop
 unfolding checkedOutcome
 returns-2 c = at-cut (now (c .before .before .before .before .before .before .before .args .survey)) (c .before .before .before .before .before .if1 .left) (c .before .before .before .before .loop .i) (c .before .before .before .before .loop .u) (c .before .before .before .before .loop .inv .1) (c .before .before .before .loop-test .taken) (subst (λ n. length (now (c .before .before .before .before .before .before .before .args .survey)) - c .before .before .before .before .loop .i < n) (c .before .group-size .ensures) (c .if2 .taken))
 
--- src/lib.rt:154:68
 add-word-at : tie.Need-add-word-at Inv-loop μ-loop
 add-word-at c = omega (arith, c .before .before .before .before .before .before .before .good)
 
--- src/lib.rt:154:44
 word-at-requires : tie.Need-word-at-requires Inv-loop μ-loop
 word-at-requires c κs = search needs
 
--- src/lib.rt:154:30
 advance-requires : tie.Need-advance-requires Inv-loop μ-loop
 advance-requires c κs = search needs
 
--- src/lib.rt:154:22
 enum-known-next : tie.Need-enum-known-next Inv-loop μ-loop
 enum-known-next c = search needs
 
--- src/lib.rt:155:13
 enum-told : tie.Need-enum-told Inv-loop μ-loop
 enum-told c = search needs
 
--- src/lib.rt:155:13
 returns-3 : tie.Need-returns-3 Inv-loop μ-loop
 unfolding checkedOutcome
 returns-3 c = at-broken (now (c .before .before .before .before .before .before .before .before .before .before .before .args .survey)) (c .before .before .before .before .before .before .before .before .before .if1 .left) (c .before .before .before .before .before .before .before .before .loop .i) (c .before .before .before .before .before .before .before .before .loop .u) (c .before .before .before .before .before .before .before .before .loop .inv .1) (c .before .before .before .before .before .before .before .loop-test .taken) (subst (λ n. n ≤ length (now (c .before .before .before .before .before .before .before .before .before .before .before .args .survey)) - c .before .before .before .before .before .before .before .before .loop .i) (c .before .before .before .before .before .group-size .ensures) (c .before .before .before .before .if2 .left)) (ap (λ v. stepOf (c .before .before .before .before .before .before .before .before .loop .u) (getD (now (c .before .before .before .before .before .before .before .before .before .before .before .args .survey)) (c .before .before .before .before .before .before .before .before .loop .i) 0) v) (sym (c .before .before .before .word-at .ensures)) ∙ sym (c .before .before .advance .ensures) ∙ c .enum-told .given .1)
 
--- src/lib.rt:158:9
 add-i : tie.Need-add-i Inv-loop μ-loop
 add-i c = omega (arith, c .before .before .before .before .before .before .before .before .before .before .before .before .good, c .before .before .before .before .before .if2 .left)
 
--- src/lib.rt:148:5
 loop-less : tie.Need-loop-less Inv-loop μ-loop
 loop-less c = omega (arith, size-pos (getD (now (c .before .before .before .before .before .before .before .before .before .before .before .before .args .survey)) (c .before .before .before .before .before .before .before .before .before .loop .i) 0), c .before .before .before .before .before .before .group-size .ensures, c .before .before .before .before .before .before .before .before .loop-test .taken)
 
--- src/lib.rt:148:5
 loop-again : tie.Need-loop-again Inv-loop μ-loop
 loop-again c = (omega (arith, c .before .before .before .before .before .if2 .left, c .before .before .before .before .before .before .before .before .loop-test .taken), at-next (now (c .before .before .before .before .before .before .before .before .before .before .before .before .args .survey)) (c .before .before .before .before .before .before .before .before .before .before .if1 .left) (c .before .before .before .before .before .before .before .before .before .loop .i) (c .before .before .before .before .before .before .before .before .before .loop .u) (c .before .before .before .before .before .before .before .before .before .loop .inv .1) (c .before .before .before .before .before .before .before .before .loop-test .taken) (subst (λ n. n ≤ length (now (c .before .before .before .before .before .before .before .before .before .before .before .before .args .survey)) - c .before .before .before .before .before .before .before .before .before .loop .i) (c .before .before .before .before .before .before .group-size .ensures) (c .before .before .before .before .before .if2 .left)) (c .before .next .given .0 .0) (ap (λ v. stepOf (c .before .before .before .before .before .before .before .before .before .loop .u) (getD (now (c .before .before .before .before .before .before .before .before .before .before .before .before .args .survey)) (c .before .before .before .before .before .before .before .before .before .loop .i) 0) v) (sym (c .before .before .before .before .word-at .ensures)) ∙ sym (c .before .before .before .advance .ensures) ∙ c .before .next .given .1) ∙ ap (λ n. firstBad (c .before .before .before .before .before .before .before .before .before .loop .i + n) (c .before .next .given .0 .0) (groupsOf (drop (c .before .before .before .before .before .before .before .before .before .loop .i + n) (now (c .before .before .before .before .before .before .before .before .before .before .before .before .args .survey))))) (sym (c .before .before .before .before .before .before .group-size .ensures)))
 
--- src/lib.rt:140:1
 returns-4 : tie.Need-returns-4 Inv-loop μ-loop
 unfolding checkedOutcome
 returns-4 c = at-end (now (c .before .before .before .before .args .survey)) (c .before .before .if1 .left) (c .before .loop .i) (c .before .loop .u) (c .before .loop .inv .1) (c .loop-test .left)

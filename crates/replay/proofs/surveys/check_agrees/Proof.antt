@@ -5,35 +5,27 @@ use borrow.Author.Needs.{needs}
 use Rattle.replay.proofs.surveys.check_agrees.Statement.{statement}
 use Rattle.replay.proofs.surveys.check_agrees.Tie as tie
 
--- src/surveys.rt:22:9
 returns : tie.Need-returns
 returns c = search needs
 
--- src/surveys.rt:24:25
 slice-aggregate-check : tie.Need-slice-aggregate-check
 slice-aggregate-check c = sym (length-take-le _ _ (omega arith))
 
--- src/surveys.rt:24:11
 check-requires : tie.Need-check-requires
 check-requires c κs = search needs
 
--- src/surveys.rt:25:32
 enum-told : tie.Need-enum-told
 enum-told c = search needs
 
--- src/surveys.rt:26:26
 enum-known-p : tie.Need-enum-known-p
 enum-known-p c = search needs
 
--- src/surveys.rt:20:1
 returns-2 : tie.Need-returns-2
 returns-2 c = search needs
 
--- src/surveys.rt:20:1
 returns-3 : tie.Need-returns-3
 returns-3 c = search needs
 
--- src/surveys.rt:20:1
 returns-4 : tie.Need-returns-4
 returns-4 c = search needs
 

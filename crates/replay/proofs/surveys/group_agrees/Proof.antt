@@ -5,35 +5,27 @@ use borrow.Author.Needs.{needs}
 use Rattle.replay.proofs.surveys.group_agrees.Statement.{statement}
 use Rattle.replay.proofs.surveys.group_agrees.Tie as tie
 
--- src/surveys.rt:32:9
 returns : tie.Need-returns
 returns c = search needs
 
--- src/surveys.rt:34:32
 slice-aggregate-device-group : tie.Need-slice-aggregate-device-group
 slice-aggregate-device-group c = sym (length-take-le _ _ (omega arith))
 
--- src/surveys.rt:34:11
 device-group-requires : tie.Need-device-group-requires
 device-group-requires c κs = search needs
 
--- src/surveys.rt:35:23
 enum-known-s : tie.Need-enum-known-s
 enum-known-s c = search needs
 
--- src/surveys.rt:36:28
 enum-told : tie.Need-enum-told
 enum-told c = search needs
 
--- src/surveys.rt:30:1
 returns-2 : tie.Need-returns-2
 returns-2 c = search needs
 
--- src/surveys.rt:30:1
 returns-3 : tie.Need-returns-3
 returns-3 c = search needs
 
--- src/surveys.rt:30:1
 returns-4 : tie.Need-returns-4
 returns-4 c = search needs
 

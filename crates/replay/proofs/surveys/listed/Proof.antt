@@ -5,35 +5,27 @@ use borrow.Author.Needs.{needs}
 use Rattle.replay.proofs.surveys.listed.Statement.{statement}
 use Rattle.replay.proofs.surveys.listed.Tie as tie
 
--- src/surveys.rt:12:13
 word-requires : tie.Need-word-requires
 word-requires c κs = search needs
 
--- src/surveys.rt:14:9
 returns : tie.Need-returns
 returns c = search needs
 
--- src/surveys.rt:16:16
 next-requires : tie.Need-next-requires
 next-requires c κs = search needs
 
--- src/surveys.rt:16:32
 slice-relend-prefix-fill : tie.Need-slice-relend-prefix-fill
 slice-relend-prefix-fill c = search needs
 
--- src/surveys.rt:16:32
 slice-aggregate-fill : tie.Need-slice-aggregate-fill
 slice-aggregate-fill c = sym (length-take-le _ _ (omega arith))
 
--- src/surveys.rt:16:5
 fill-requires : tie.Need-fill-requires
 fill-requires c κs = search needs
 
--- src/surveys.rt:11:1
 same-length : tie.Need-same-length
 same-length c = search needs
 
--- src/surveys.rt:11:1
 returns-2 : tie.Need-returns-2
 returns-2 c = search needs
 
