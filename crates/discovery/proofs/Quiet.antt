@@ -1,6 +1,6 @@
 -- Laws of rings that no entry leaves by: how they are told, and that they have no tunnel. Assumes nothing.
 use Prim.Native.Nat.{ℕ, suc, _+_, _*_, _/_, _%_, _^_, _≤_, _<_}
-use mathlib.Core.Path.{_≡_, refl, sym, ap, _∙_}
+use mathlib.Core.Path.{_≡_, refl, sym, ap, _∙_, subst}
 use mathlib.Core.Bool.{Bool, true, false, cond, _&&_, _||_}
 use mathlib.Core.List.{List}
 use mathlib.Core.Option.{none, some}
@@ -22,7 +22,7 @@ use Rattle.receive.specs.declared.Received.{Received}
 use Rattle.receive.specs.declared.Received.the-variants as answer
 use Rattle.receive.proofs.Hops.{walk-none}
 use Rattle.tunnel.specs.Tunnels.{Tunnel, ringTunnel, oneDma}
-use Rattle.discovery.specs.Work.{among, outHops, Quiet, Unasked, Unmarked, Spared, Resting, Idle}
+use Rattle.discovery.specs.Work.{among, outHops, Quiet, Unasked, markOf, Unmarked, Spared, Resting, Idle}
 use Rattle.discovery.proofs.Past.{unused, receive-alike, bare-tunnel}
 
 -- ---- the HopIDs by which entries leave, one by one
@@ -46,7 +46,7 @@ module _ (en : List ℕ) (i v : ℕ) where
 
 -- ---- rings that are not marked
 
-pub unmarked : (ring : ℕ) (idle : List ℕ) → ring < length idle → Unmarked ring idle (set idle ring 0)
+unmarked : (ring : ℕ) (idle : List ℕ) → ring < length idle → Unmarked ring idle (set idle ring 0)
 unmarked ring idle l = record { keeps = λ j e. go j e (decLt j ring) (decLt ring j) }
   where
     go : (j : ℕ) → getD (set idle ring 0) j 0 ≡ 1 → Dec (j < ring) → Dec (ring < j) → (getD idle j 0 ≡ 1) × (ring ≡ j → ⊥)
@@ -55,13 +55,19 @@ unmarked ring idle l = record { keeps = λ j e. go j e (decLt j ring) (decLt rin
     go j e (no k) (no n) = absurd (let q : j ≡ ring = omega arith in omega (arith, sym e ∙ ap (λ i. getD (set idle ring 0) i 0) q ∙ getD-set-same idle ring 0 0 l))
 
 -- there is none so large
-pub not-there : (ring : ℕ) (idle : List ℕ) → length idle ≤ ring → Unmarked ring idle idle
+not-there : (ring : ℕ) (idle : List ℕ) → length idle ≤ ring → Unmarked ring idle idle
 not-there ring idle l = record { keeps = λ j e. (e, λ q. omega (arith, e, List·getD-eq-default {A = ℕ} idle 0 {n = j} (omega (arith, q, l)))) }
 
-pub spared-other : (w owner : ℕ) (old new : List ℕ) → Unmarked (w % 65536) old new → (w / 1099511627776 ≡ owner → ⊥) → Spared w owner old new
+pub unmarked-at : (i k : ℕ) (idle : List ℕ) → k ≡ i → k < length idle → Unmarked i idle (set idle k 0)
+unmarked-at i k idle e l = subst (λ j. Unmarked j idle (set idle k 0)) e (unmarked k idle l)
+
+pub not-there-at : (i k : ℕ) (idle : List ℕ) → k ≡ i → length idle ≤ k → Unmarked i idle idle
+not-there-at i k idle e l = subst (λ j. Unmarked j idle idle) e (not-there k idle l)
+
+pub spared-other : (w owner : ℕ) (old new : List ℕ) → Unmarked (markOf (w % 65536)) old new → (w / 1099511627776 ≡ owner → ⊥) → Spared w owner old new
 spared-other w owner old new u n = record { keeps = λ j e. let k = u .keeps j e in (k .0, k .1, λ q z. n q) }
 
-pub spared-both : (w owner : ℕ) (old mid new : List ℕ) → Unmarked (w % 65536) old mid → Unmarked (w / 16777216 % 65536) mid new → Spared w owner old new
+pub spared-both : (w owner : ℕ) (old mid new : List ℕ) → Unmarked (markOf (w % 65536)) old mid → Unmarked (markOf (w / 16777216 % 65536)) mid new → Spared w owner old new
 spared-both w owner old mid new u v = record { keeps = λ j e. let k = v .keeps j e in let l = u .keeps j (k .0) in (l .0, l .1, λ q z. k .1 z) }
 
 -- an entry that doesn't stand at an adapter's HopID
@@ -76,7 +82,7 @@ not-here w p a j n = go (eqb (w / 2 ^ 48) p) (eqb (w / 2 ^ 40 % 256) a) (eqb (w 
 
 -- what rings are unmarked for the entries from a place on, for all
 pub record Sparing (en : List ℕ) (p a i : ℕ) (idle : List ℕ) : Type 0 where
-  pub left : (j : ℕ) → getD idle j 0 ≡ 1 → Unasked (drop i en) p a j → Unasked en p a j
+  pub left : (j : ℕ) → getD idle (markOf j) 0 ≡ 1 → Unasked (drop i en) p a j → Unasked en p a j
 
 module _ (en : List ℕ) (p a i : ℕ) where
   entry-on : i < length en → (j : ℕ) → ((getD en i 0 / 2 ^ 48 ≡ p) → (getD en i 0 / 2 ^ 40 % 256 ≡ a) → (getD en i 0 / 2 ^ 24 % 65536 ≡ j) → ⊥) → entryIn (entriesIn (drop i en)) p a j ≡ entryIn (entriesIn (drop (i + 1) en)) p a j
@@ -89,10 +95,10 @@ module _ (en : List ℕ) (p a i : ℕ) where
   pub sparing-on : (idle idle′ : List ℕ) → Sparing en p a i idle → i < length en → (owner : ℕ) → owner ≡ p % 65536 * 256 + a → a < 256 → Spared (getD en i 0) owner idle idle′ → Sparing en p a (i + 1) idle′
   sparing-on idle idle′ s l owner o b w = record {
     left = λ j e u.
-        let k = w .keeps j e in
+        let k = w .keeps (markOf j) e in
         s .left j (k .0) (record {
-          unused = out-on en i j l (k .1) ∙ u .unused;
-          missing = λ q. entry-on l j (λ x y z. k .2 (omega (arith, o, q, x, y)) z) ∙ u .missing q;
+          unused = out-on en i j l (λ x. k .1 (ap markOf x)) ∙ u .unused;
+          missing = λ q. entry-on l j (λ x y z. k .2 (omega (arith, o, q, x, y)) (ap markOf z)) ∙ u .missing q;
         });
   }
 

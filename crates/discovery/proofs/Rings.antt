@@ -1,11 +1,13 @@
 -- Laws of the loops over rings: what is left to count or write gives the whole. Assumes nothing.
 use Prim.Native.Nat.{ℕ, suc, _+_, _-_, _*_, _≤_, _<_}
 use mathlib.Core.Path.{_≡_, refl, sym, ap, _∙_, subst}
+use mathlib.Core.Bool.{Bool, true, false, cond}
 use mathlib.Core.Logic.{_⊎_, inl, inr, ⊎-elim}
 use mathlib.Core.List.{List, [], _∷_, _++_, append-assoc, append-nil, Option·toList}
 use mathlib.Core.Option.{Option, none, some}
 use native.Mathlib.Omega.{arith}
 use native.Mathlib.Decide.{decLt}
+use lib.Dec.{ltb}
 use lib.ListN.{length, getD, take, set, replicate, length-append, length-replicate, getD-replicate, List·getD-eq-default}
 use lib.Seq.{length-take-le, take-all, getD-set-other}
 use Rattle.refusal.specs.Outcome.{Outcome, refused, value, bind}
@@ -21,7 +23,7 @@ use Rattle.tunnel.specs.Words.{tunnelWords, tunnelsWords}
 use Rattle.tunnel.specs.Plans.{Plan, fromBy, planOf, planIf, plannedOutcome, wordsBy, pathsBy, Plans}
 use Rattle.tunnel.specs.declared.Planned.{Planned}
 use Rattle.tunnel.specs.declared.Planned.the-variants as planned
-use Rattle.discovery.specs.Work.{Wrote, tallyOf, tallied, Marked, Idle, Drafted, Tallies, RingPut, RingsPut, PlanPut}
+use Rattle.discovery.specs.Work.{Wrote, tallyOf, tallied, markOf, Marked, Idle, Drafted, Tallies, RingPut, RingsPut, PlanPut}
 use Rattle.discovery.specs.declared.Tally.the-variants as tally
 use Rattle.discovery.proofs.Walks.{one-dma-walks}
 use Rattle.discovery.proofs.Writing.{wrote-nothing, wrote-front}
@@ -107,30 +109,39 @@ no-length (x ∷ l) e = absurd (omega arith)
 pub not-marked : (ring words : ℕ) (idle : List ℕ) → Marked ring words idle idle
 not-marked ring words idle = record { marks = λ j e. inl e }
 
-pub marked : (ring words : ℕ) (idle : List ℕ) → words ≤ 0 → Marked ring words idle (set idle ring 1)
-marked ring words idle l = record { marks = λ j e. go j e (decLt j ring) (decLt ring j) }
+pub marked : (ring words : ℕ) (idle : List ℕ) → words ≤ 0 → ring ≤ 2046 → Marked ring words idle (set idle ring 1)
+marked ring words idle l m = record { marks = λ j e. go j e (decLt j ring) (decLt ring j) }
   where
-    go : (j : ℕ) → getD (set idle ring 1) j 0 ≡ 1 → Dec (j < ring) → Dec (ring < j) → (getD idle j 0 ≡ 1) ⊎ ((j ≡ ring) × (words < 1))
+    go : (j : ℕ) → getD (set idle ring 1) j 0 ≡ 1 → Dec (j < ring) → Dec (ring < j) → (getD idle j 0 ≡ 1) ⊎ ((j ≡ ring) × (ring < 2047) × (words < 1))
     go j e (yes k) n = inl (sym (getD-set-other idle ring j 1 0 (λ q. omega arith)) ∙ e)
     go j e (no k) (yes n) = inl (sym (getD-set-other idle ring j 1 0 (λ q. omega arith)) ∙ e)
-    go j e (no k) (no n) = inr (omega arith, omega arith)
+    go j e (no k) (no n) = inr (omega arith, omega arith, omega arith)
+
+-- a mark below 2,047 is one ring's
+own-mark : (j ring : ℕ) → markOf j ≡ ring → ring < 2047 → j ≡ ring
+unfolding markOf
+own-mark j ring e l = go (ltb 2047 j) refl e
+  where
+    go : (b : Bool) → ltb 2047 j ≡ b → cond b 2047 j ≡ ring → j ≡ ring
+    go true f g = absurd (omega arith)
+    go false f g = g
 
 module _ (en ad ro ma : List ℕ) (p a : ℕ) where
   -- none is marked
   pub idle-start : (n : ℕ) → Idle en ad ro ma p a (replicate n 0)
-  idle-start n = record { rests = λ z t q j e. absurd (go j e (decLt j n)) }
+  idle-start n = record { rests = λ z t q j e. absurd (go (markOf j) e (decLt (markOf j) n)) }
     where
       go : (j : ℕ) → _≡_ {A = ℕ} (getD (replicate n 0) j 0) 1 → Dec (j < n) → ⊥
       go j e (yes l) = omega (arith, getD-replicate {A = ℕ} n j 0 0 l)
       go j e (no l) = omega (arith, List·getD-eq-default {A = ℕ} (replicate n 0) 0 {n = j} (omega (arith, length-replicate {A = ℕ} n 0)))
 
   pub idle-marked : (idle idle′ : List ℕ) → Idle en ad ro ma p a idle → (ring : ℕ) (plan : Planned) → Plans en ad ro ma p (λ x. oneDma x p a ring) plan → (w : ℕ) → tallyOf plan ≡ tally.Words w → Marked ring w idle idle′ → Idle en ad ro ma p a idle′
-  idle-marked idle idle′ i ring plan f w e m = record { rests = λ z t q j g. ⊎-elim (i .rests z t q j) (λ h. subst (λ k. oneDma (rowsOf en ad ro ma) p a k ≡ value none) (sym (h .0)) (here z t q (h .1))) (m .marks j g) }
+  idle-marked idle idle′ i ring plan f w e m = record { rests = λ z t q j g. ⊎-elim (i .rests z t q j) (λ h. subst (λ k. oneDma (rowsOf en ad ro ma) p a k ≡ value none) (sym (own-mark j ring (h .0) (h .1))) (here z t q (h .2))) (m .marks (markOf j) g) }
     where
       here : Sized en ro → Tabled en ad ro → p < 65536 → w < 1 → oneDma (rowsOf en ad ro ma) p a ring ≡ value none
       here z t q l = let y = plan-words plan (oneDma (rowsOf en ad ro ma) p a ring) (f .answers z t q) w e in y .1 ∙ ap value (no-words (y .0) (omega (arith, y .2)))
 
-  pub ring-idle : (idle : List ℕ) → Idle en ad ro ma p a idle → (ring : ℕ) → getD idle ring 0 ≡ 1 → (at : ℕ) (out : List ℕ) → at ≤ length out → RingPut en ad ro ma p a ring at out at out
+  pub ring-idle : (idle : List ℕ) → Idle en ad ro ma p a idle → (ring : ℕ) → getD idle (markOf ring) 0 ≡ 1 → (at : ℕ) (out : List ℕ) → at ≤ length out → RingPut en ad ro ma p a ring at out at out
   unfolding tunnelsWords Option·toList
   ring-idle idle i ring e at out l = record {
     within = l;
@@ -146,7 +157,7 @@ module _ (en ad ro ma : List ℕ) (p a : ℕ) where
     words = λ z t q o e room. w .words z t o (f .answers z t q ∙ ap (λ y. bind y (λ t. value (planIf t))) e) (one-dma-walks (rowsOf en ad ro ma) p a ring o e) room;
   }
 
-  pub idle-plan : (idle : List ℕ) → Idle en ad ro ma p a idle → (ring : ℕ) → getD idle ring 0 ≡ 1 → Plans en ad ro ma p (λ x. oneDma x p a ring) planned.Absent
+  pub idle-plan : (idle : List ℕ) → Idle en ad ro ma p a idle → (ring : ℕ) → getD idle (markOf ring) 0 ≡ 1 → Plans en ad ro ma p (λ x. oneDma x p a ring) planned.Absent
   unfolding plannedOutcome wordsBy pathsBy planIf bind
   idle-plan idle i ring e = record {
     answers = λ z t l. sym (ap (λ o. bind o (λ k. value (planIf k))) (i .rests z t l ring e));
@@ -216,7 +227,7 @@ module _ (en ad ro ma : List ℕ) (p a end : ℕ) where
     }
 
   -- a ring that has none is passed
-  pub counted-past : (need ring : ℕ) → Counted need ring → ring < end → (idle : List ℕ) → Idle en ad ro ma p a idle → getD idle ring 0 ≡ 1 → Counted need (ring + 1)
+  pub counted-past : (need ring : ℕ) → Counted need ring → ring < end → (idle : List ℕ) → Idle en ad ro ma p a idle → getD idle (markOf ring) 0 ≡ 1 → Counted need (ring + 1)
   unfolding tallyOf
   counted-past need ring c more idle i e = subst (λ n. Counted n (ring + 1)) (let y : need + 0 ≡ need = omega arith in y) (counted-on need ring c more planned.Absent (idle-plan en ad ro ma p a idle i ring e) 0 refl)
 

@@ -70,13 +70,17 @@ tallied (tally.Refused r) = refusedBy r
 unfoldable pub ringsEnd : ℕ → ℕ
 ringsEnd most = cond (ltb 65535 most) 65536 (most + 1)
 
--- a ring is marked, if it needs no words, and no other
+-- where a ring's mark stands: those from 2,047 on have one together
+unfoldable pub markOf : ℕ → ℕ
+markOf ring = cond (ltb 2047 ring) 2047 ring
+
+-- a ring is marked, if it needs no words and has a mark of its own, and no other
 pub record Marked (ring words : ℕ) (old new : List ℕ) : Type 0 where
-  pub marks : (j : ℕ) → getD new j 0 ≡ 1 → (getD old j 0 ≡ 1) ⊎ ((j ≡ ring) × (words < 1))
+  pub marks : (j : ℕ) → getD new j 0 ≡ 1 → (getD old j 0 ≡ 1) ⊎ ((j ≡ ring) × (ring < 2047) × (words < 1))
 
 -- a ring that is marked has no tunnel
 pub record Idle (en ad ro ma : List ℕ) (p a : ℕ) (idle : List ℕ) : Type 0 where
-  pub rests : Sized en ro → Tabled en ad ro → p < 65536 → (j : ℕ) → getD idle j 0 ≡ 1 → oneDma (rowsOf en ad ro ma) p a j ≡ value none
+  pub rests : Sized en ro → Tabled en ad ro → p < 65536 → (j : ℕ) → getD idle (markOf j) 0 ≡ 1 → oneDma (rowsOf en ad ro ma) p a j ≡ value none
 
 -- a number is in a list
 unfoldable pub among : ℕ → List ℕ → Bool
@@ -96,17 +100,17 @@ pub record Unasked (en : List ℕ) (p a ring : ℕ) : Type 0 where
   pub unused : among ring (outHops en) ≡ false
   pub missing : p < 65536 → entryIn (entriesIn en) p a ring ≡ none
 
--- a ring is not marked, and no other is marked anew
-pub record Unmarked (ring : ℕ) (old new : List ℕ) : Type 0 where
-  pub keeps : (j : ℕ) → getD new j 0 ≡ 1 → (getD old j 0 ≡ 1) × (ring ≡ j → ⊥)
+-- there is no mark at a place, and no other mark is new
+pub record Unmarked (i : ℕ) (old new : List ℕ) : Type 0 where
+  pub keeps : (j : ℕ) → getD new j 0 ≡ 1 → (getD old j 0 ≡ 1) × (i ≡ j → ⊥)
 
--- the same of the ring that an entry leaves by and, where the entry is an owner's, of the one that it stands at
+-- the same of the ring that an entry leaves by and, where the entry is an owner's (place x 256 + adapter), of the one at which it stands
 pub record Spared (w owner : ℕ) (old new : List ℕ) : Type 0 where
-  pub keeps : (j : ℕ) → getD new j 0 ≡ 1 → (getD old j 0 ≡ 1) × (w % 65536 ≡ j → ⊥) × (w / 1099511627776 ≡ owner → w / 16777216 % 65536 ≡ j → ⊥)
+  pub keeps : (j : ℕ) → getD new j 0 ≡ 1 → (getD old j 0 ≡ 1) × (markOf (w % 65536) ≡ j → ⊥) × (w / 1099511627776 ≡ owner → markOf (w / 16777216 % 65536) ≡ j → ⊥)
 
--- a ring that is marked is one of those
+-- no entry leaves by a ring that is marked, and none stands at it
 pub record Resting (en : List ℕ) (p a : ℕ) (idle : List ℕ) : Type 0 where
-  pub rests : (j : ℕ) → getD idle j 0 ≡ 1 → Unasked en p a j
+  pub rests : (j : ℕ) → getD idle (markOf j) 0 ≡ 1 → Unasked en p a j
 
 -- how many notes of a search tell of all rings; 64 for none
 pub record Known (found : Received) (noted r : ℕ) : Type 0 where

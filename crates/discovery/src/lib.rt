@@ -10,7 +10,7 @@ ghost use Rattle.receive.specs.Tables.{Receives};
 ghost use Rattle.tunnel.specs.Tunnels.{discover, oneDma};
 ghost use Rattle.tunnel.specs.Plans.{Plans, fromBy, pathsBy};
 ghost use Rattle.discovery.specs.Tables.{Discovered};
-ghost use Rattle.discovery.specs.Work.{PathPut, PlanPut, Marked, Unmarked, Spared, Resting, Idle, Quiet, Known, Told, NoteFound, NotePath, among, outHops, Drafted, Tallies, RingPut, RingsPut, OneAnswered, Answered, dmaBy, tunnelBy, tallyOf, ringsEnd};
+ghost use Rattle.discovery.specs.Work.{PathPut, PlanPut, Marked, Unmarked, Spared, Resting, Idle, Quiet, markOf, Known, Told, NoteFound, NotePath, among, outHops, Drafted, Tallies, RingPut, RingsPut, OneAnswered, Answered, dmaBy, tunnelBy, tallyOf, ringsEnd};
 use adapter::Facts;
 use adapter::MaxHop;
 use load::Refusal;
@@ -190,17 +190,28 @@ fn is_quiet(entries: &[u64], found: Received) -> bool
     }
 }
 
-// Unmarks a ring.
-fn unmark(idle: &mut [u8], ring: usize)
-    ensures { λ _. ⌜ Unmarked ring (now (idle .entry)) (now (idle .exit)) ⌝ }
+// Where a ring's mark stands: those from 2,047 on have one mark together. By our descriptions there are no more, since HopIDs have 11 bits.
+fn mark_of(ring: usize) -> usize
+    ensures { λ r. ⌜ (r ≡ markOf ring) × (r ≤ 2047) ⌝ }
 {
-    if idle.len() <= ring {
-        return;
+    if 2047 < ring {
+        return 2047;
     }
-    idle[ring] = 0;
+    ring
 }
 
-// Unmarks the ring that an entry leaves by and, where it stands at an adapter, the one that it stands at.
+// Unmarks a ring.
+fn unmark(idle: &mut [u8], ring: usize)
+    ensures { λ _. ⌜ Unmarked (markOf ring) (now (idle .entry)) (now (idle .exit)) ⌝ }
+{
+    let i = mark_of(ring);
+    if idle.len() <= i {
+        return;
+    }
+    idle[i] = 0;
+}
+
+// Unmarks the ring that an entry leaves by and, where it is an entry of the owner (place x 256 + adapter), the one at which it stands.
 fn unmark_used(idle: &mut [u8], entry: u64, owner: u64)
     ensures { λ _. ⌜ Spared entry owner (now (idle .entry)) (now (idle .exit)) ⌝ }
 {
@@ -211,7 +222,7 @@ fn unmark_used(idle: &mut [u8], entry: u64, owner: u64)
     unmark(idle, (entry / 16777216 % 65536) as usize);
 }
 
-// Unmarks the rings that entries leave by, and those that stand at an adapter of the device at a place.
+// Unmarks the rings that entries leave by, and those at which entries of an adapter of the device at a place stand.
 fn unmark_all(entries: &[u64], place: usize, adapter: u8, idle: &mut [u8])
     ensures { λ _. ⌜ Resting (now (entries .entry)) place adapter (now (idle .exit)) ⌝ }
 {
@@ -223,7 +234,7 @@ fn unmark_all(entries: &[u64], place: usize, adapter: u8, idle: &mut [u8])
     }
 }
 
-// The rings that are known to have no tunnel before each is asked, marked with 1: HopIDs have 11 bits.
+// The rings that are known to have no tunnel before each is asked, marked with 1.
 fn at_rest(entries: &[u64], place: usize, adapter: u8, found: Received) -> [u8; 2048]
     ensures { λ r. ⌜ ((ad ro ma : List ℕ) → Receives (now (entries .entry)) ad ro ma 65535 found → Idle (now (entries .entry)) ad ro ma place adapter r) ⌝ }
 {
@@ -257,7 +268,7 @@ fn known_notes(found: Received, noted: usize) -> usize
     }
 }
 
-// The first note of a path that leaves by a ring.
+// The first note of a path that leaves by a ring, or how many notes there are.
 fn find_note(notes: &[u64], ring: u16) -> usize
     ensures { λ r. ⌜ NoteFound (now (notes .entry)) ring r ⌝ }
 {
@@ -348,14 +359,14 @@ fn plan_ring(
     tunnel::one_dma(entries, adapters, routes, marks, place, adapter, ring, r)
 }
 
-// Marks a ring that needs no words.
+// Marks a ring that needs no words, if it has a mark of its own.
 fn mark(idle: &mut [u8; 2048], ring: u32, words: usize)
     ensures { λ _. ⌜ Marked ring words (now (idle .entry)) (now (idle .exit)) ⌝ }
 {
     if 0 < words {
         return;
     }
-    if 2047 < ring {
+    if 2046 < ring {
         return;
     }
     idle[ring as usize] = 1;
@@ -416,12 +427,9 @@ fn tally_rings(
 
 // Whether a ring is marked.
 fn is_idle(idle: &[u8; 2048], ring: u32) -> bool
-    ensures { λ r. ⌜ (r ≡ true → getD (now (idle .entry)) ring 0 ≡ 1) ⌝ }
+    ensures { λ r. ⌜ (r ≡ true → getD (now (idle .entry)) (markOf ring) 0 ≡ 1) ⌝ }
 {
-    if ring < 2048 {
-        return idle[ring as usize] == 1;
-    }
-    false
+    idle[mark_of(ring as usize)] == 1
 }
 
 // Writes the tunnel of a ring from a place of the output on, unless the ring is marked; the place after it.

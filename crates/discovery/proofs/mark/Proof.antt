@@ -14,7 +14,7 @@ element-write-idle : tie.Need-element-write-idle
 element-write-idle c = search needs
 
 returns-3 : tie.Need-returns-3
-returns-3 c = marked _ _ _ (c .before .if1 .left)
+returns-3 c = marked _ _ _ (c .before .if1 .left) (c .if2 .left)
 
 pub mark-spec : {M : Type 1} → statement M
 mark-spec = tie.close (tie.spec returns returns-2 element-write-idle returns-3)
