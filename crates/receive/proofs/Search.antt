@@ -161,6 +161,7 @@ module _ (en ad ro ma : List ℕ) (ring : ℕ) where
       → Sights en ad ro ma ring (record { found = a; noted = noted }) notes
   ends a ws noted notes w few whole = record {
     comes = record { answers = λ t. sym (whole t ring ∙ notes-none (rowsOf en ad ro ma) ring ws (receivedOutcome ring a) (w .others)); few = few };
+    within = w .within;
     tells = λ p l. record { tells = λ t v. whole t v ∙ ap (λ (z : List ℕ). byNotes (rowsOf en ad ro ma) v z (receivedOutcome v a)) (sym (w .kept l)) };
   }
 
@@ -273,6 +274,7 @@ module _ (en ad ro ma : List ℕ) (ring : ℕ) where
       unfolding Stepped endHops
       among-fits a e = record {
         comes = record { answers = λ t. look (step.Fits a) e t _ ∙ sym (s .whole t ring ∙ notes-none (rowsOf en ad ro ma) ring (s .ws) _ (s .written .others)); few = omega (arith, k .few, ap endHops e) };
+        within = s .written .within;
         tells = λ p l. absurd (true≢false (sym (k .fitting a e) ∙ p));
       }
 

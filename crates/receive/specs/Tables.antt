@@ -52,7 +52,7 @@ noteStand w = at (w / 2 ^ 40 % 65536) (w / 2 ^ 32 % 256) (w / 2 ^ 16 % 65536)
 unfoldable pub noteRing : ℕ → ℕ
 noteRing w = w % 65536
 
--- what is said of the walk from a stand, whose path leaves by a ring
+-- what is said of the walk from a stand, as of a path that leaves by a ring: a note under that ring is of such a walk
 unfoldable pub saidFrom : ℕ → Stand → Option Leaving → Said
 saidFrom ring s absent = none
 saidFrom ring s (some l) = path s (record { hops = l .hops; place = l .place; adapter = l .adapter; hopId = ring })
@@ -65,6 +65,7 @@ unfoldable pub byNotes : Rows → ℕ → List ℕ → Outcome Said → Outcome 
 byNotes x ring [] rest = rest
 byNotes x ring (w ∷ ws) rest = cond (eqb (noteRing w) ring) (walkSaid x ring (noteStand w)) (byNotes x ring ws rest)
 
+-- a path was found
 unfoldable pub isPath : Received → Bool
 isPath (answer.Path q n h k p a) = true
 isPath answer.Nothing = false
@@ -80,7 +81,8 @@ pub record Receives (en ad ro ma : List ℕ) (ring : ℕ) (r : Received) : Type 
   pub answers : Tabled en ad ro → receivedOutcome ring r ≡ bind (receive (rowsOf en ad ro ma) ring) (λ v. value (saidOf v))
   pub few : hopsBy r ≤ length en
 
--- the same with what is noted on the way: all of it, where no path is found and not all 64 notes are taken
+-- The same with what is noted on the way. How many paths are noted is free, but that there are 64 at most: only time hangs on it. Fewer than 64, where no path is found, tell of all rings.
 pub record Searches (en ad ro ma : List ℕ) (ring : ℕ) (s : Searched) : Type 0 where
   pub comes : Receives en ad ro ma ring (s .found)
+  pub within : s .noted ≤ 64
   pub notes : isPath (s .found) ≡ false → s .noted < 64 → Foretells en ad ro ma (take (s .noted) (s .notes)) (s .found)

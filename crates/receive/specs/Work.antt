@@ -76,4 +76,5 @@ pub record PutNote (word noted : ℕ) (old : List ℕ) (r : ℕ) (new : List ℕ
 -- what is noted of a search, in a list of any length
 pub record Sights (en ad ro ma : List ℕ) (ring : ℕ) (s : Sought) (notes : List ℕ) : Type 0 where
   pub comes : Receives en ad ro ma ring (s .found)
+  pub within : s .noted ≤ length notes
   pub tells : isPath (s .found) ≡ false → s .noted < length notes → Foretells en ad ro ma (take (s .noted) notes) (s .found)

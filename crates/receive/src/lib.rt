@@ -48,7 +48,7 @@ pub enum LaneFound {
     Refused(Refusal),
 }
 
-// What a search comes to, and the paths that it passes, as far as there is room: the place, adapter and HopID from which each starts, and the HopID that it leaves by, a word.
+// What a search comes to, and notes of the paths that it passes, as far as there is room: the place, adapter and HopID from which each starts, and the HopID that it leaves by, in one word. They are for the search of other rings.
 pub struct Searched {
     pub found: Received,
     pub noted: usize,

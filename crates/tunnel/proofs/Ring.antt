@@ -188,3 +188,9 @@ module _ (en ad ro ma : List ℕ) (p a ring : ℕ) (r : Walked) (f : Tallied en 
     few = d .few;
     three = d .three;
   }
+
+-- ---- a plan's bounds, whatever was sought
+
+pub one-bounds : (y : Planned) (w : ℕ) (s : Start) → y ≡ onePath w s → w ≤ 131073 → (wordsBy y ≤ 1048576) × (pathsBy y ≤ 3)
+unfolding onePath wordsBy pathsBy
+one-bounds y w s e l = subst (λ z. (wordsBy z ≤ 1048576) × (pathsBy z ≤ 3)) (sym e) (omega (arith, l), omega arith)

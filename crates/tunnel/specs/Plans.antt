@@ -14,7 +14,9 @@ use Rattle.walk.specs.Rule.{standOf}
 use Rattle.walk.specs.Tables.{rowsOf, Tabled}
 use Rattle.path.specs.Put.{Sized}
 use Rattle.receive.specs.Receive.{at}
-use Rattle.tunnel.specs.Tunnels.{Path, Tunnel}
+use Rattle.receive.specs.Tables.{Receives}
+use Rattle.receive.specs.declared.Received.{Received}
+use Rattle.tunnel.specs.Tunnels.{Path, Tunnel, oneDma}
 use Rattle.tunnel.specs.Words.{closed, tunnelWords}
 use Rattle.tunnel.specs.declared.Start.{Start}
 use Rattle.tunnel.specs.declared.Planned.{Planned}
@@ -68,5 +70,11 @@ pathsBy (planned.Refused r) = 0
 -- For a place that a key has room for, in tables in order and no larger than a survey's, it is the plan of the tunnel that f says of their rows. Else it is free, but that it has at most three paths and 1,048,576 words.
 pub record Plans (en ad ro ma : List ℕ) (p : ℕ) (f : Rows → Outcome (Option Tunnel)) (r : Planned) : Type 0 where
   pub answers : Sized en ro → Tabled en ad ro → p < 65536 → plannedOutcome r ≡ bind (f (rowsOf en ad ro ma)) (λ o. value (planIf o))
+  pub few : wordsBy r ≤ 1048576
+  pub three : pathsBy r ≤ 3
+
+-- The plan of a ring's tunnel by what a search for its receive path came to. For anything else that is handed in it is free, but for the same bounds.
+pub record RingPlans (en ad ro ma : List ℕ) (p a ring : ℕ) (received : Received) (r : Planned) : Type 0 where
+  pub plans : Receives en ad ro ma ring received → Plans en ad ro ma p (λ x. oneDma x p a ring) r
   pub few : wordsBy r ≤ 1048576
   pub three : pathsBy r ≤ 3

@@ -6,8 +6,8 @@ ghost use mathlib.Core.List.{List};
 ghost use lib.Dec.{eqb};
 ghost use Rattle.receive.specs.Receive.{at};
 ghost use Rattle.receive.specs.Tables.{Receives};
-ghost use Rattle.tunnel.specs.Tunnels.{downAndUp, displayPort, oneDma};
-ghost use Rattle.tunnel.specs.Plans.{Plans};
+ghost use Rattle.tunnel.specs.Tunnels.{downAndUp, displayPort};
+ghost use Rattle.tunnel.specs.Plans.{wordsBy, pathsBy, Plans, RingPlans};
 ghost use Rattle.tunnel.specs.Work.{Draws, finished, auxiliary, alonePlan, withPlan, ringBy, startBy, onePath};
 use load::Refusal;
 use receive::Received;
@@ -246,7 +246,7 @@ fn one_path(words: usize, place: usize, adapter: u8, hop: u16, name: u8) -> Plan
 
 // A ring's tunnel without a DMA TX path, by what the search for its receive path came to.
 fn receive_alone(received: Received) -> Planned
-    ensures { λ r. ⌜ ((en ad ro ma : List ℕ) (ring : ℕ) → Receives en ad ro ma ring received → Draws en ad ro ma 0 (λ x. ringBy x ring alonePlan) r) ⌝ }
+    ensures { λ r. ⌜ ((en ad ro ma : List ℕ) (ring : ℕ) → Receives en ad ro ma ring received → Draws en ad ro ma 0 (λ x. ringBy x ring alonePlan) r) × (wordsBy r ≤ 1048576) × (pathsBy r ≤ 3) ⌝ }
 {
     match received {
         Received::Refused(refusal) => Planned::Refused(refusal),
@@ -266,7 +266,7 @@ fn receive_alone(received: Received) -> Planned
 // A ring's tunnel whose head and DMA TX path have so many words.
 fn receive_with(place: usize, adapter: u8, ring: u16, words: usize, received: Received) -> Planned
     requires { ⌜ words ≤ 131072 ⌝ }
-    ensures { λ r. ⌜ ((en ad ro ma : List ℕ) → Receives en ad ro ma ring received → Draws en ad ro ma 0 (λ x. ringBy x ring (withPlan (at place adapter ring) words)) r) ⌝ }
+    ensures { λ r. ⌜ ((en ad ro ma : List ℕ) → Receives en ad ro ma ring received → Draws en ad ro ma 0 (λ x. ringBy x ring (withPlan (at place adapter ring) words)) r) × (wordsBy r ≤ 1048576) × (pathsBy r ≤ 3) ⌝ }
 {
     match received {
         Received::Refused(refusal) => Planned::Refused(refusal),
@@ -305,7 +305,7 @@ pub fn one_dma(
     ring: u16,
     received: Received,
 ) -> Planned
-    ensures { λ r. ⌜ (Receives (now (entries .entry)) (now (adapters .entry)) (now (routes .entry)) (now (marks .entry)) ring received → Plans (now (entries .entry)) (now (adapters .entry)) (now (routes .entry)) (now (marks .entry)) place (λ x. oneDma x place adapter ring) r) ⌝ }
+    ensures { λ r. ⌜ RingPlans (now (entries .entry)) (now (adapters .entry)) (now (routes .entry)) (now (marks .entry)) place adapter ring received r ⌝ }
 {
     match walk::tally(entries, adapters, routes, marks, place, adapter, ring) {
         Walked::Refused(refusal) => Planned::Refused(refusal),

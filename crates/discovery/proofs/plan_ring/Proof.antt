@@ -10,7 +10,7 @@ one-dma-requires : tie.Need-one-dma-requires
 one-dma-requires c κs = search needs
 
 returns : tie.Need-returns
-returns c = c .one-dma .ensures (c .before .received-by .ensures)
+returns c = c .one-dma .ensures .plans (c .before .received-by .ensures)
 
 pub plan-ring-spec : {M : Type 1} → statement M
 plan-ring-spec = tie.close (tie.spec received-by-requires one-dma-requires returns)

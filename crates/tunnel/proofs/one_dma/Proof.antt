@@ -1,5 +1,7 @@
 -- `tunnel::one_dma` meets its contract.
+use native.Mathlib.Omega.{arith}
 use borrow.Author.Needs.{needs}
+use Rattle.tunnel.specs.Plans.{wordsBy, pathsBy}
 use Rattle.tunnel.proofs.Ring.{dma-refused, dma-alone, dma-with}
 use Rattle.tunnel.proofs.one_dma.Statement.{statement}
 use Rattle.tunnel.proofs.one_dma.Tie as tie
@@ -29,13 +31,14 @@ receive-with-requires : tie.Need-receive-with-requires
 receive-with-requires c κs = search needs
 
 returns : tie.Need-returns
-returns c = λ f. dma-refused _ _ _ _ _ _ _ _ (c .before .before .before .tally .ensures) _ (c .before .refusal .given .1)
+unfolding wordsBy pathsBy
+returns c = record { plans = λ f. dma-refused _ _ _ _ _ _ _ _ (c .before .before .before .tally .ensures) _ (c .before .refusal .given .1); few = omega arith; three = omega arith }
 
 returns-2 : tie.Need-returns-2
-returns-2 c = λ f. dma-alone _ _ _ _ _ _ _ _ (c .before .before .before .tally .ensures) _ (c .before .enum-told .given .1) (c .receive-alone .ensures _ _ _ _ _ f)
+returns-2 c = let d = c .receive-alone .ensures in record { plans = λ f. dma-alone _ _ _ _ _ _ _ _ (c .before .before .before .tally .ensures) _ (c .before .enum-told .given .1) (d .0 _ _ _ _ _ f); few = d .1; three = d .2 }
 
 returns-3 : tie.Need-returns-3
-returns-3 c = λ f. let g = c .before .before .before in dma-with _ _ _ _ _ _ _ _ (g .before .before .tally .ensures) _ _ _ _ _ _ (g .hops .given .1) (c .before .path-words .ensures) (c .receive-with .ensures _ _ _ _ f)
+returns-3 c = let d = c .receive-with .ensures in record { plans = λ f. let g = c .before .before .before in dma-with _ _ _ _ _ _ _ _ (g .before .before .tally .ensures) _ _ _ _ _ _ (g .hops .given .1) (c .before .path-words .ensures) (d .0 _ _ _ _ f); few = d .1; three = d .2 }
 
 pub one-dma-spec : {M : Type 1} → statement M
 one-dma-spec =

@@ -1,6 +1,8 @@
 -- `tunnel::receive_with` meets its contract.
+use native.Mathlib.Omega.{arith}
 use borrow.Author.Needs.{needs}
-use Rattle.tunnel.proofs.Ring.{ring-refused, with-lost, with-nothing, with-path}
+use Rattle.tunnel.specs.Plans.{wordsBy, pathsBy}
+use Rattle.tunnel.proofs.Ring.{one-bounds, ring-refused, with-lost, with-nothing, with-path}
 use Rattle.tunnel.proofs.receive_with.Statement.{statement}
 use Rattle.tunnel.proofs.receive_with.Tie as tie
 
@@ -38,19 +40,26 @@ starting-requires-3 : tie.Need-starting-requires-3
 starting-requires-3 c κs = search needs
 
 returns : tie.Need-returns
-returns c = λ en ad ro ma f. ring-refused en ad ro ma _ _ f _ _ (c .before .received .given .1)
+unfolding wordsBy pathsBy
+returns c = (λ en ad ro ma f. ring-refused en ad ro ma _ _ f _ _ (c .before .received .given .1), omega arith, omega arith)
 
 returns-2 : tie.Need-returns-2
-returns-2 c = λ en ad ro ma f. with-lost en ad ro ma _ _ f _ _ _ (c .before .before .pre) (c .enum-told .given .1)
+unfolding wordsBy pathsBy
+returns-2 c = (λ en ad ro ma f. with-lost en ad ro ma _ _ f _ _ _ (c .before .before .pre) (c .enum-told .given .1), omega arith, omega arith)
 
 returns-3 : tie.Need-returns-3
-returns-3 c = λ en ad ro ma f. with-nothing en ad ro ma _ _ f _ _ _ (c .before .before .before .pre) _ (c .before .enum-told2 .given .1) (c .one-path .ensures)
+returns-3 c = let b = one-bounds _ _ _ (c .one-path .ensures) (omega (arith, c .before .before .before .pre)) in (λ en ad ro ma f. with-nothing en ad ro ma _ _ f _ _ _ (c .before .before .before .pre) _ (c .before .enum-told2 .given .1) (c .one-path .ensures), b .0, b .1)
 
 returns-4 : tie.Need-returns-4
-returns-4 c = λ en ad ro ma f.
-    let g = c .before .before .before .before in
-    let m = g .before .before in
-    with-path en ad ro ma _ _ f _ _ _ (m .before .before .pre) _ _ _ _ _ _ _ _ _ _ _ (m .received2 .given .1) (g .path-words .ensures) (c .before .before .before .same .ensures) (c .before .before .starting .ensures) (c .before .starting2 .ensures)
+unfolding wordsBy pathsBy
+returns-4 c = (
+  λ en ad ro ma f.
+      let g = c .before .before .before .before in
+      let m = g .before .before in
+      with-path en ad ro ma _ _ f _ _ _ (m .before .before .pre) _ _ _ _ _ _ _ _ _ _ _ (m .received2 .given .1) (g .path-words .ensures) (c .before .before .before .same .ensures) (c .before .before .starting .ensures) (c .before .starting2 .ensures),
+  omega (arith, c .before .before .before .before .path-words .ensures .0, c .before .before .before .before .before .before .before .before .pre),
+  omega arith,
+)
 
 pub receive-with-spec : {M : Type 1} → statement M
 receive-with-spec =
