@@ -26,6 +26,10 @@ unsafe extern "C" {
         marks: *mut u64,
         mark_room: usize,
     ) -> usize;
+}
+
+#[link(name = "discovering", kind = "static")]
+unsafe extern "C" {
     fn walk_on(
         entries: *const u64,
         entry_count: usize,
@@ -48,8 +52,10 @@ unsafe extern "C" {
         route_count: usize,
         marks: *const u64,
         mark_count: usize,
-        starts: *const u64,
-        start_count: usize,
+        place: usize,
+        adapter: u8,
+        hop: u16,
+        times: usize,
     ) -> usize;
 }
 
@@ -108,14 +114,12 @@ struct Start {
     place: usize,
     adapter: u8,
     hop: u16,
-    starts: [u64; WALKS],
 }
 
 impl Start {
     fn new(name: &str, routers: &[Router], place: usize, adapter: u8, hop: u16) -> Self {
         make(&dumps(name, routers));
-        let starts = [(place as u64) << 24 | (adapter as u64) << 16 | hop as u64; WALKS];
-        let start = Start { tables: Tables::of(&words(routers)), devices: loaded(name, routers), place, adapter, hop, starts };
+        let start = Start { tables: Tables::of(&words(routers)), devices: loaded(name, routers), place, adapter, hop };
         assert_eq!(start.ours(), start.expected(), "not where the Rust comes");
         assert_eq!(start.most() as u64, start.ours() >> 48, "not so many hops");
         start
@@ -125,10 +129,9 @@ impl Start {
         self.tables.walk(self.place, self.adapter, self.hop)
     }
 
-    /// The most hops of the walks from all the starts.
+    /// The most hops of the walks.
     fn most(&self) -> usize {
         let t = &self.tables;
-        let starts = black_box(&self.starts);
         unsafe {
             walks_on(
                 t.entries.as_ptr(),
@@ -139,8 +142,10 @@ impl Start {
                 t.routes.len(),
                 t.marks.as_ptr(),
                 t.marks.len(),
-                starts.as_ptr(),
-                starts.len(),
+                black_box(self.place),
+                black_box(self.adapter),
+                black_box(self.hop),
+                WALKS,
             )
         }
     }

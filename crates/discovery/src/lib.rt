@@ -626,7 +626,7 @@ fn put_dma(
             let notes = searched.notes;
             let count = known_notes(found, searched.noted);
             let mut idle = at_rest(entries, place, adapter, found);
-            let mut draft = [0u32; 1024]; // room for the words of some 140 rings
+            let mut draft = [0u32; 512]; // room for the words of some 70 rings
             match tally_rings(
                 entries,
                 adapters,

@@ -2,7 +2,7 @@
 ghost use Rattle.search.specs.Ahead.{HopAhead};
 ghost use Rattle.search.specs.Lanes.{LaneSought};
 ghost use Rattle.search.specs.Work.{WordSought};
-ghost use Rattle.tables.specs.Found.{Boundary, EntrySought, AdapterSought};
+ghost use Rattle.tables.specs.Found.{EntrySought, AdapterSought};
 use tables::AdapterFound;
 use tables::EntryAt;
 
@@ -25,23 +25,6 @@ pub enum LaneAt {
     Nowhere,
 }
 
-// Where the words that are not below a bound begin, in words that are in order.
-fn seek(table: &[u64], bound: u64) -> usize
-    ensures { λ r. ⌜ Boundary (now (table .entry)) bound r ⌝ }
-{
-    let mut lo: usize = 0;
-    let mut hi = table.len();
-    while lo < hi {
-        let mid = (lo + hi) / 2;
-        if table[mid] < bound {
-            lo = mid + 1;
-        } else {
-            hi = mid;
-        }
-    }
-    lo
-}
-
 // The first entry for a HopID at an adapter of a device.
 pub fn find_entry(entries: &[u64], place: usize, adapter: u8, hop: u16) -> EntryAt
     ensures { λ r. ⌜ EntrySought (now (entries .entry)) place adapter hop r ⌝ }
@@ -50,7 +33,7 @@ pub fn find_entry(entries: &[u64], place: usize, adapter: u8, hop: u16) -> Entry
         return EntryAt::Missing;
     }
     let key = (place as u64) * 16777216 + (adapter as u64) * 65536 + (hop as u64);
-    let i = seek(entries, key * 16777216);
+    let i = boundary::seek(entries, key * 16777216);
     if entries.len() <= i {
         return EntryAt::Missing;
     }
@@ -72,7 +55,7 @@ pub fn next_hop(entries: &[u64], place: usize, adapter: u8, hop: u16) -> HopAt
         return HopAt::None;
     }
     let owner = (place as u64) * 256 + (adapter as u64);
-    let i = seek(entries, (owner * 65536 + (hop as u64)) * 16777216);
+    let i = boundary::seek(entries, (owner * 65536 + (hop as u64)) * 16777216);
     if entries.len() <= i {
         return HopAt::None;
     }
@@ -91,7 +74,7 @@ fn adapter_word(adapters: &[u64], place: usize, number: u8) -> WordAt
         return WordAt::Nowhere;
     }
     let key = (place as u64) * 256 + (number as u64);
-    let i = seek(adapters, key * 1099511627776);
+    let i = boundary::seek(adapters, key * 1099511627776);
     if adapters.len() <= i {
         return WordAt::Nowhere;
     }
