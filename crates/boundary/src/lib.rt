@@ -1,4 +1,4 @@
-// Where words that are not below a bound begin, in words that are in order. Any words will do.
+// Where words that are not below a bound begin, in words that are in order. Any words will do: where they fall, it is some place where a word below the bound stands before one that isn't.
 ghost use Prim.Native.Nat.{_+_, _*_, _≤_, _<_};
 ghost use mathlib.Core.Path.{_≡_};
 ghost use mathlib.Core.Bool.{true};
@@ -28,7 +28,7 @@ fn seek_front(table: &[u64], bound: u64) -> usize
     step(table, c, 0, bound)
 }
 
-// Whether there are more than 15 words, and those that are not below the bound begin among the first 16.
+// Says yes only where there are more than 15 words, and the 16th is not below the bound.
 fn is_front(table: &[u64], bound: u64) -> bool
     ensures { λ r. ⌜ (r ≡ true → (15 < length (now (table .entry))) × (bound ≤ getD (now (table .entry)) 15 0)) ⌝ }
 {
@@ -38,7 +38,7 @@ fn is_front(table: &[u64], bound: u64) -> bool
     bound <= table[15]
 }
 
-// Where the words that are not below a bound begin, in words that are in order. The host's entries and adapters stand first, and most walks start there: so the front is looked at first.
+// Where the words that are not below a bound begin, in words that are in order. In most surveys the host's entries and adapters stand first, and walks start there: so the front is looked at first.
 pub fn seek(table: &[u64], bound: u64) -> usize
     ensures { λ r. ⌜ Boundary (now (table .entry)) bound r ⌝ }
 {

@@ -1,4 +1,4 @@
-// Discovery (module 7, `Tunnel::discover`) on the tables that a survey is loaded to: a tally first, then the words.
+// Discovery (module 7, `Tunnel::discover`) on the tables that a survey is loaded to: a tally first, and with it a draft of the words; then the words.
 ghost use Prim.Native.Nat.{ℕ, _+_, _*_, _-_, _≤_, _<_};
 ghost use mathlib.Core.Path.{_≡_};
 ghost use mathlib.Core.Bool.{true, cond};
@@ -168,7 +168,7 @@ fn leaves_by(entries: &[u64], hop: u16) -> bool
     false
 }
 
-// Whether the search for a receive path is not refused for a ring that no entry leaves by. It goes alike for all of these, so one is asked: 65,535, which no ring of a survey by our descriptions is.
+// Says yes only where the search for a receive path is not refused for a ring that no entry leaves by. It goes alike for all of these, so one is asked: 65,535, which no ring of a survey by our descriptions is.
 fn is_quiet(entries: &[u64], found: Received) -> bool
     ensures { λ r. ⌜ ((ad ro ma : List ℕ) → Receives (now (entries .entry)) ad ro ma 65535 found → r ≡ true → Quiet (now (entries .entry)) ad ro ma) ⌝ }
 {
@@ -626,7 +626,7 @@ fn put_dma(
             let notes = searched.notes;
             let count = known_notes(found, searched.noted);
             let mut idle = at_rest(entries, place, adapter, found);
-            let mut draft = [0u32; 512]; // room for the words of some 70 rings
+            let mut draft = [0u32; 512]; // room for the words of 73 rings with two paths of one hop each
             match tally_rings(
                 entries,
                 adapters,

@@ -52,7 +52,7 @@ noteStand w = at (w / 2 ^ 40 % 65536) (w / 2 ^ 32 % 256) (w / 2 ^ 16 % 65536)
 unfoldable pub noteRing : ℕ → ℕ
 noteRing w = w % 65536
 
--- what is said of the walk from a stand, as of a path that leaves by a ring: a note under that ring is of such a walk
+-- what is said of the walk from a stand, as of a path that leaves by a ring: a note under that ring is read as such a walk
 unfoldable pub saidFrom : ℕ → Stand → Option Leaving → Said
 saidFrom ring s absent = none
 saidFrom ring s (some l) = path s (record { hops = l .hops; place = l .place; adapter = l .adapter; hopId = ring })
@@ -81,7 +81,7 @@ pub record Receives (en ad ro ma : List ℕ) (ring : ℕ) (r : Received) : Type 
   pub answers : Tabled en ad ro → receivedOutcome ring r ≡ bind (receive (rowsOf en ad ro ma) ring) (λ v. value (saidOf v))
   pub few : hopsBy r ≤ length en
 
--- The same with what is noted on the way. How many paths are noted is free, but that there are 64 at most: only time hangs on it. Fewer than 64, where no path is found, tell of all rings.
+-- The same with notes for the search of other rings. Document 01 has none. Fewer than 64, where no path is found, tell with what is found what the search for any ring comes to. The rest is free, and only time hangs on it: how many there are, up to 64, which tell nothing, as any number does where a path is found; the notes themselves then; their order under different rings; a second note under a ring; a note that says no more than what is found; and the words after the notes.
 pub record Searches (en ad ro ma : List ℕ) (ring : ℕ) (s : Searched) : Type 0 where
   pub comes : Receives en ad ro ma ring (s .found)
   pub within : s .noted ≤ 64

@@ -48,7 +48,7 @@ pub enum LaneFound {
     Refused(Refusal),
 }
 
-// What a search comes to, and notes of the paths that it passes, as far as there is room: the place, adapter and HopID from which each starts, and the HopID that it leaves by, in one word. They are for the search of other rings.
+// What a search comes to, and notes for the search of other rings: of a path that it passes the place, adapter and HopID from which it starts, and the HopID that it leaves by, in one word. `noted` is how many there are; 64 tell nothing.
 pub struct Searched {
     pub found: Received,
     pub noted: usize,

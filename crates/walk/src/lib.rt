@@ -81,7 +81,7 @@ fn onward(
     }
 }
 
-// How the walk from an adapter and HopID of the device at a place ends. The first entry is looked for before the loop: most walks that are asked for have none.
+// How the walk from an adapter and HopID of the device at a place ends. The first entry is looked for before the loop, so that a walk without one ends soon.
 pub fn tally(
     entries: &[u64],
     adapters: &[u64],
