@@ -155,17 +155,19 @@ impl Start {
         self.devices[self.place].adapter(self.adapter).unwrap()
     }
 
-    fn its_path<'a>(&'a self, adapter: &'a debugfs::Adapter) -> Option<tunnel::Path<'a>> {
-        Tunnel::discover_path("walk", &self.devices[self.place], adapter, black_box(self.hop), &self.devices)
+    fn its_path<'a>(&'a self, device: &'a Device, adapter: &'a debugfs::Adapter, hop: u16) -> Option<tunnel::Path<'a>> {
+        Tunnel::discover_path("walk", device, adapter, hop, &self.devices)
     }
 
+    /// As `most`: the start is handed over once for all walks.
     fn its_most(&self, adapter: &debugfs::Adapter) -> usize {
-        (0..WALKS).map(|_| self.its_path(black_box(adapter)).map_or(0, |p| p.hops().len())).max().unwrap()
+        let (device, adapter, hop) = (black_box(&self.devices[self.place]), black_box(adapter), black_box(self.hop));
+        (0..WALKS).map(|_| self.its_path(device, adapter, hop).map_or(0, |p| p.hops().len())).max().unwrap()
     }
 
     /// The Rust's answer, as `walk_on` gives it.
     fn expected(&self) -> u64 {
-        self.its_path(self.its_adapter()).map_or(0, |p| {
+        self.its_path(&self.devices[self.place], self.its_adapter(), self.hop).map_or(0, |p| {
             let (last, e) = (p.dst_device(), p.hops().last().unwrap().entry());
             let at = self.devices.iter().position(|d| std::ptr::eq(d, last)).unwrap() as u64;
             (p.hops().len() as u64) << 48 | at << 32 | (e.out_adapter() as u64) << 24 | e.out_hop() as u64
