@@ -1,5 +1,5 @@
 -- Laws on lines in the columns that the kernel prints: words, the spaces between them, and the numbers that they write. Assumes nothing.
-use Prim.Native.Nat.{ℕ, zero, suc, _+_, _-_, _*_, _<_, _≤_}
+use Prim.Native.Nat.{ℕ, zero, suc, _+_, _-_, _/_, _%_, _<_, _≤_}
 use native.Mathlib.Omega.{arith}
 use native.Mathlib.Numerals.{add-one}
 use native.Mathlib.Nat.{add-zero}
@@ -12,9 +12,8 @@ use lib.ListN.{length, getD, take, drop, length-drop, drop-of-length-le}
 use lib.Seq.{drop-cons, drop-drop, take-nil, take-add, length-take-le, getD-take, getD-drop}
 use borrow.Author.Tests.{lt-ltb, le-leb, ltb-true, eqb-true, ne-eqb}
 use Rattle.util.specs.Number.{digitOf, valueOf, allDigits, afterPrefix, afterPlus, numberOf, hexNumber, decimalNumber}
-use Rattle.util.specs.declared.Number.{Number}
 use Rattle.util.specs.declared.Number.the-variants.{Value, None}
-use Rattle.scan.specs.Scan.{isSpace, isLineFeed, placeFrom, before, onFirst, pieces, filled, tokens}
+use Rattle.scan.specs.Scan.{isSpace, isLineFeed, placeFrom, onFirst, pieces, filled, tokens}
 use Rattle.scan.proofs.Laws.{space-above, place-here, place-on, place-end, place-within}
 use Rattle.register.specs.Line.{max16, max32, isComment, withToken, registerOf, fourTokens, fiveTokens, byTokens, meaning}
 use Rattle.columns.specs.Lines.{MetAt}
@@ -29,7 +28,8 @@ use Rattle.columns.specs.declared.Columns.{Columns}
 use Rattle.columns.specs.declared.Columns.the-variants as columns
 use Rattle.columns.specs.declared.Quick.{Quick}
 use Rattle.columns.specs.declared.Quick.the-variants.{Found}
-use Rattle.columns.specs.Work.{noDigit, Digits, Prefix, Run, Ends, FrontAt, FrontsAt, ColumnsAt, QuickAt}
+use Rattle.columns.specs.Work.{packed, Digits, Spells, Parted, Prefix, Run, Ends, FrontAt, FrontsAt, ColumnsAt, QuickAt}
+use Rattle.columns.proofs.Packed.{digits-parted}
 
 -- no separator is in it
 unfoldable pub solid : List ℕ → Bool
@@ -146,67 +146,31 @@ module _ (s : List ℕ) where
     same-line = a .same-line ∙ b .same-line;
   }
 
--- numbers of two, four and eight digits
-digits-two : (x y a b : ℕ) → a < 16 → a ≡ digitOf x → b < 16 → b ≡ digitOf y → Digits (x ∷ y ∷ []) (a * 16 + b)
-unfolding allDigits valueOf
-digits-two x y a b la ea lb eb = record { all-digits = simp (lt-ltb (digitOf x) 16 (omega arith), lt-ltb (digitOf y) 16 (omega arith)); value-is = omega arith }
+-- the bytes at a place, and the digits that they are
+abbrev later : List ℕ → ℕ → ℕ → ℕ → List ℕ
+later s i k zero = []
+later s i k (suc n) = getD s (i + k) 0 ∷ later s i (suc k) n
 
-all-append : (x y : List ℕ) → allDigits 16 x ≡ true → allDigits 16 y ≡ true → allDigits 16 (x ++ y) ≡ true
-unfolding allDigits
-all-append [] y e f = f
-all-append (b ∷ x) y e f = step (ltb (digitOf b) 16) e (λ z. all-append x y z f)
-  where
-    step : (t : Bool) → t && allDigits 16 x ≡ true → (allDigits 16 x ≡ true → allDigits 16 (x ++ y) ≡ true) → t && allDigits 16 (x ++ y) ≡ true
-    step true z ih = ih z
-    step false z ih = absurd (false≢true z)
-
-value-append : (v : ℕ) (x y : List ℕ) → valueOf 16 v (x ++ y) ≡ valueOf 16 (valueOf 16 v x) y
-unfolding valueOf
-value-append v [] y = refl
-value-append v (b ∷ x) y = value-append (v * 16 + digitOf b) x y
-
-value-two : (v x y : ℕ) → valueOf 16 v (x ∷ y ∷ []) ≡ v * 256 + valueOf 16 0 (x ∷ y ∷ [])
-unfolding valueOf
-value-two v x y = omega arith
-
-value-four : (v x y z u : ℕ) → valueOf 16 v (x ∷ y ∷ z ∷ u ∷ []) ≡ v * 65536 + valueOf 16 0 (x ∷ y ∷ z ∷ u ∷ [])
-unfolding valueOf
-value-four v x y z u = omega arith
+take-later : (n : ℕ) (s : List ℕ) (i k : ℕ) → i + k + n ≤ length s → take n (drop (i + k) s) ≡ later s i k n
+take-later zero s i k h = refl
+take-later (suc n) s i k h = take-cons s (i + k) n (omega arith) ∙ ap (λ j. getD s (i + k) 0 ∷ take n (drop j s)) (let q : i + k + 1 ≡ i + suc k = omega arith in q) ∙ ap (λ t. getD s (i + k) 0 ∷ t) (take-later n s i (suc k) (omega arith))
 
 module _ (s : List ℕ) where
-  bytes-two : (i : ℕ) → i + 2 ≤ length s → take 2 (drop i s) ≡ getD s i 0 ∷ getD s (i + 1) 0 ∷ []
-  bytes-two i h = take-cons s i 1 (omega arith) ∙ ap (λ t. getD s i 0 ∷ t) (take-cons s (i + 1) 0 (omega arith))
+  bytes-at : (i n : ℕ) → i + suc n ≤ length s → take (suc n) (drop i s) ≡ getD s i 0 ∷ later s i 1 n
+  bytes-at i n h = take-cons s i n (omega arith) ∙ ap (λ t. getD s i 0 ∷ t) (take-later n s i 1 (omega arith))
 
-  bytes-four : (i : ℕ) → i + 4 ≤ length s → take 4 (drop i s) ≡ getD s i 0 ∷ getD s (i + 1) 0 ∷ getD s (i + 1 + 1) 0 ∷ getD s (i + 1 + 1 + 1) 0 ∷ []
-  bytes-four i h = take-cons s i 3 (omega arith) ∙ ap (λ t. getD s i 0 ∷ t) (take-cons s (i + 1) 2 (omega arith)) ∙ ap (λ t. getD s i 0 ∷ getD s (i + 1) 0 ∷ t) (bytes-two (i + 1 + 1) (omega arith))
+  module _ (small : (i : ℕ) → getD s i 0 < 256) (w v : ℕ) where
+    pub eight-digits : (i : ℕ) → i + 8 ≤ length s → w ≡ packed (getD s i 0) (getD s (i + 1) 0) (getD s (i + 2) 0) (getD s (i + 3) 0) (getD s (i + 4) 0) (getD s (i + 5) 0) (getD s (i + 6) 0) (getD s (i + 7) 0) → Spells w v → Digits (take 8 (drop i s)) v
+    eight-digits i h q p = subst (λ l. Digits l v) (sym (bytes-at i 7 h)) (p .spells _ _ _ _ _ _ _ _ (small i) (small (i + 1)) (small (i + 2)) (small (i + 3)) (small (i + 4)) (small (i + 5)) (small (i + 6)) (small (i + 7)) q)
 
-  after-two : (i : ℕ) → i + 2 ≤ length s → (v : ℕ) → valueOf 16 v (take 2 (drop i s)) ≡ v * 256 + valueOf 16 0 (take 2 (drop i s))
-  after-two i h v = rw (bytes-two i h) (value-two v (getD s i 0) (getD s (i + 1) 0))
-
-  after-four : (i : ℕ) → i + 4 ≤ length s → (v : ℕ) → valueOf 16 v (take 4 (drop i s)) ≡ v * 65536 + valueOf 16 0 (take 4 (drop i s))
-  after-four i h v = rw (bytes-four i h) (value-four v (getD s i 0) (getD s (i + 1) 0) (getD s (i + 1 + 1) 0) (getD s (i + 1 + 1 + 1) 0))
-
-  -- digits and m more
-  digits-join : (n m i k v w : ℕ) → ((u : ℕ) → valueOf 16 u (take m (drop (i + n) s)) ≡ u * k + valueOf 16 0 (take m (drop (i + n) s))) → Digits (take n (drop i s)) v → Digits (take m (drop (i + n) s)) w → Digits (take (n + m) (drop i s)) (v * k + w)
-  digits-join n m i k v w after d e = subst (λ l. Digits l (v * k + w)) (sym parted) joined
-    where
-      parted : take (n + m) (drop i s) ≡ take n (drop i s) ++ take m (drop (i + n) s)
-      parted = take-add n m (drop i s) ∙ ap (λ t. take n (drop i s) ++ take m t) (drop-drop n i s)
-
-      joined : Digits (take n (drop i s) ++ take m (drop (i + n) s)) (v * k + w)
-      joined = record {
-        all-digits = all-append (take n (drop i s)) (take m (drop (i + n) s)) (d .all-digits) (e .all-digits);
-        value-is = value-append 0 (take n (drop i s)) (take m (drop (i + n) s)) ∙ ap (λ u. valueOf 16 u (take m (drop (i + n) s))) (d .value-is) ∙ after v ∙ ap (λ u. v * k + u) (e .value-is);
-      }
-
-  pub two-digits : (i a b : ℕ) → i + 2 ≤ length s → a < 16 → a ≡ digitOf (getD s i 0) → b < 16 → b ≡ digitOf (getD s (i + 1) 0) → Digits (take 2 (drop i s)) (a * 16 + b)
-  two-digits i a b h la ea lb eb = subst (λ w. Digits w (a * 16 + b)) (sym (bytes-two i h)) (digits-two (getD s i 0) (getD s (i + 1) 0) a b la ea lb eb)
-
-  pub four-digits : (i a b : ℕ) → i + 4 ≤ length s → Digits (take 2 (drop i s)) a → Digits (take 2 (drop (i + 2) s)) b → Digits (take 4 (drop i s)) (a * 256 + b)
-  four-digits i a b h = digits-join 2 2 i 256 a b (after-two (i + 2) (omega arith))
-
-  pub eight-digits : (i a b : ℕ) → i + 8 ≤ length s → Digits (take 4 (drop i s)) a → Digits (take 4 (drop (i + 4) s)) b → Digits (take 8 (drop i s)) (a * 65536 + b)
-  eight-digits i a b h = digits-join 4 4 i 65536 a b (after-four (i + 4) (omega arith))
+    pub parted-digits : (i j k : ℕ) → i + 4 ≤ length s → j + 2 ≤ length s → k + 2 ≤ length s → w ≡ packed (getD s i 0) (getD s (i + 1) 0) (getD s (i + 2) 0) (getD s (i + 3) 0) (getD s j 0) (getD s (j + 1) 0) (getD s k 0) (getD s (k + 1) 0) → Spells w v → Parted s i j k v
+    parted-digits i j k hi hj hk q p =
+        let d = digits-parted (getD s i 0) (getD s (i + 1) 0) (getD s (i + 2) 0) (getD s (i + 3) 0) (getD s j 0) (getD s (j + 1) 0) (getD s k 0) (getD s (k + 1) 0) v (p .spells _ _ _ _ _ _ _ _ (small i) (small (i + 1)) (small (i + 2)) (small (i + 3)) (small j) (small (j + 1)) (small k) (small (k + 1)) q) in
+        record {
+          four = subst (λ l. Digits l (v / 65536)) (sym (bytes-at i 3 hi)) (d .0);
+          two = subst (λ l. Digits l (v / 256 % 256)) (sym (bytes-at j 1 hj)) (d .1);
+          last = subst (λ l. Digits l (v % 256)) (sym (bytes-at k 1 hk)) (d .2);
+        }
 
 -- a word of `0x` and digits
 not-plus : (b : ℕ) (w : List ℕ) → allDigits 16 (b ∷ w) ≡ true → afterPlus (b ∷ w) ≡ b ∷ w
@@ -286,16 +250,18 @@ module _ (s : List ℕ) where
   no-comment i n h e = ap (λ b. eqb b 35) (getD-take n (drop i s) 0 0 h ∙ getD-drop i s 0 0 ∙ ap (λ k. getD s k 0) (add-zero i) ∙ e)
 
   module _ (i : ℕ) where
-    pub front-at : (o r c start : ℕ) → i + 17 ≤ length s → getD s (i + 16) 0 ≡ 32 → Prefix s i → getD s (i + 6) 0 ≡ 32 → getD s (i + 11) 0 ≡ 32 → Prefix s (i + 11 + 1) → Digits (take 4 (drop (i + 2) s)) o → o ≤ 65535 → Digits (take 2 (drop (i + 14) s)) c → c ≤ 255 → start ≤ i + 7 + 3 → Run s (i + 7) start [] → decimalNumber max16 (take (i + 11 - start) (drop start s)) ≡ Value r → FrontAt s i (record { offset = o; «relative_offset» = r; «cap_id» = c })
-    front-at o r c start h b16 p b6 b11 p12 d0 l0 d2 l2 before-word pad e = record {
+    pub front-at : (k n r start : ℕ) → i + 17 ≤ length s → getD s (i + 16) 0 ≡ 32 → Prefix s i → getD s (i + 6) 0 ≡ 32 → getD s (i + 11) 0 ≡ 32 → Prefix s (i + 11 + 1) → Parted s (i + 2) (i + 14) k n → n ≤ 0xffffffff → start ≤ i + 7 + 3 → Run s (i + 7) start [] → decimalNumber max16 (take (i + 11 - start) (drop start s)) ≡ Value r → FrontAt s i k (record { offset = n / 65536; «relative_offset» = r; «cap_id» = n / 256 % 256; «vs_cap_id» = n % 256 })
+    front-at k n r start h b16 p b6 b11 p12 d l before-word pad e = record {
       first = p .zero-there;
       token0 = take 6 (drop i s);
       token1 = take (i + 11 - start) (drop start s);
       token2 = take 4 (drop (i + 12) s);
-      run = run-then s (run-hex i (i + 2) 4 (i + 7) o refl (omega arith) (omega arith) p d0 (ap (λ k. getD s k 0) (let q : i + 2 + 4 ≡ i + 6 = omega arith in q) ∙ b6)) (run-then s pad (run-then s middle (run-hex (i + 12) (i + 14) 2 (i + 17) c (omega arith) (omega arith) h p12′ d2 (ap (λ k. getD s k 0) (let q : i + 14 + 2 ≡ i + 16 = omega arith in q) ∙ b16))));
-      offset-is = hex-number max16 i (i + 2) 4 o refl (omega arith) (omega arith) p d0 l0;
+      run = run-then s (run-hex i (i + 2) 4 (i + 7) (n / 65536) refl (omega arith) (omega arith) p (d .four) (ap (λ j. getD s j 0) (let q : i + 2 + 4 ≡ i + 6 = omega arith in q) ∙ b6)) (run-then s pad (run-then s middle (run-hex (i + 12) (i + 14) 2 (i + 17) (n / 256 % 256) (omega arith) (omega arith) h p12′ (d .two) (ap (λ j. getD s j 0) (let q : i + 14 + 2 ≡ i + 16 = omega arith in q) ∙ b16))));
+      offset-is = hex-number max16 i (i + 2) 4 (n / 65536) refl (omega arith) (omega arith) p (d .four) (omega arith);
       relative-is = e;
-      cap-is = hex-number max16 (i + 12) (i + 14) 2 c (omega arith) (omega arith) (omega arith) p12′ d2 (omega arith);
+      cap-is = hex-number max16 (i + 12) (i + 14) 2 (n / 256 % 256) (omega arith) (omega arith) (omega arith) p12′ (d .two) (omega arith);
+      vs-is = d .last;
+      vs-small = omega arith;
     }
       where
         p12′ : Prefix s (i + 12)
@@ -315,7 +281,7 @@ module _ (l a b c d : List ℕ) (o r x : ℕ) (plain : isComment l ≡ false) (e
   meaning-five e cap vs ts ec ed ee = sym (simp (plain, ts, ea, eb, ec, ed, ee))
 
 -- lines of 27 and of 32 bytes
-module _ (s : List ℕ) (i : ℕ) (f : Front) (x : ℕ) (front : FrontAt s i f) (l : x ≤ 0xffffffff) where
+module _ (s : List ℕ) (i k : ℕ) (f : Front) (x : ℕ) (front : FrontAt s i k f) (l : x ≤ 0xffffffff) where
   pub four-columns : Ends s i 27 → Prefix s (i + 16 + 1) → Digits (take 8 (drop (i + 19) s)) x → (i + 27 ≡ placeFrom isLineFeed s i) × (Record (registerOf (f .offset) (f .«relative_offset») 0 0 x) ≡ meaning (take 27 (drop i s)))
   four-columns n p e = (
     line-ends s i 27 (i + 17) 10 (omega arith) n (front .run) w,
@@ -328,14 +294,17 @@ module _ (s : List ℕ) (i : ℕ) (f : Front) (x : ℕ) (front : FrontAt s i f) 
       w : solid (take 10 (drop (i + 17) s)) ≡ true
       w = hex-solid s (i + 17) (i + 19) 8 x (omega arith) (omega (arith, n .within)) p′ e
 
-  pub five-columns : (v : ℕ) → Ends s i 32 → Prefix s (i + 16 + 1) → getD s (i + 21) 0 ≡ 32 → Prefix s (i + 21 + 1) → Digits (take 2 (drop (i + 19) s)) v → v ≤ 255 → Digits (take 8 (drop (i + 24) s)) x → (i + 32 ≡ placeFrom isLineFeed s i) × (Record (registerOf (f .offset) (f .«relative_offset») (f .«cap_id») v x) ≡ meaning (take 32 (drop i s)))
-  five-columns v n p b q d k e = (
+  pub five-columns : k ≡ i + 19 → Ends s i 32 → Prefix s (i + 16 + 1) → getD s (i + 21) 0 ≡ 32 → Prefix s (i + 21 + 1) → Digits (take 8 (drop (i + 24) s)) x → (i + 32 ≡ placeFrom isLineFeed s i) × (Record (registerOf (f .offset) (f .«relative_offset») (f .«cap_id») (f .«vs_cap_id») x) ≡ meaning (take 32 (drop i s)))
+  five-columns u n p b q e = (
     line-ends s i 32 (i + 22) 10 (omega arith) n run w,
-    meaning-five (take 32 (drop i s)) (front .token0) (front .token1) (front .token2) (take 4 (drop (i + 17) s)) (f .offset) (f .«relative_offset») x (no-comment s i 32 (omega arith) (front .first)) (front .offset-is) (front .relative-is) (take 10 (drop (i + 22) s)) (f .«cap_id») v (line-tokens s i 32 (i + 22) 10 (omega arith) (omega arith) n ts run w) (front .cap-is) (hex-number s max16 (i + 17) (i + 19) 2 v (omega arith) (omega arith) (omega (arith, n .within)) p′ d (omega arith)) (hex-number s max32 (i + 22) (i + 24) 8 x (omega arith) (omega arith) (omega (arith, n .within)) q′ e l),
+    meaning-five (take 32 (drop i s)) (front .token0) (front .token1) (front .token2) (take 4 (drop (i + 17) s)) (f .offset) (f .«relative_offset») x (no-comment s i 32 (omega arith) (front .first)) (front .offset-is) (front .relative-is) (take 10 (drop (i + 22) s)) (f .«cap_id») (f .«vs_cap_id») (line-tokens s i 32 (i + 22) 10 (omega arith) (omega arith) n ts run w) (front .cap-is) (hex-number s max16 (i + 17) (i + 19) 2 (f .«vs_cap_id») (omega arith) (omega arith) (omega (arith, n .within)) p′ d (omega (arith, front .vs-small))) (hex-number s max32 (i + 22) (i + 24) 8 x (omega arith) (omega arith) (omega (arith, n .within)) q′ e l),
   )
     where
       p′ : Prefix s (i + 17)
       p′ = subst (λ j. Prefix s j) (let z : i + 16 + 1 ≡ i + 17 = omega arith in z) p
+
+      d : Digits (take 2 (drop (i + 19) s)) (f .«vs_cap_id»)
+      d = subst (λ j. Digits (take 2 (drop j s)) (f .«vs_cap_id»)) u (front .vs-is)
 
       q′ : Prefix s (i + 22)
       q′ = subst (λ j. Prefix s j) (let z : i + 21 + 1 ≡ i + 22 = omega arith in z) q
@@ -344,7 +313,7 @@ module _ (s : List ℕ) (i : ℕ) (f : Front) (x : ℕ) (front : FrontAt s i f) 
       ts = front .token0 ∷ front .token1 ∷ front .token2 ∷ take 4 (drop (i + 17) s) ∷ []
 
       run : Run s i (i + 22) ts
-      run = run-then s (front .run) (run-hex s (i + 17) (i + 19) 2 (i + 22) v (omega arith) (omega arith) (omega (arith, n .within)) p′ d (ap (λ j. getD s j 0) (let z : i + 19 + 2 ≡ i + 21 = omega arith in z) ∙ b))
+      run = run-then s (front .run) (run-hex s (i + 17) (i + 19) 2 (i + 22) (f .«vs_cap_id») (omega arith) (omega arith) (omega (arith, n .within)) p′ d (ap (λ j. getD s j 0) (let z : i + 19 + 2 ≡ i + 21 = omega arith in z) ∙ b))
 
       w : solid (take 10 (drop (i + 22) s)) ≡ true
       w = hex-solid s (i + 22) (i + 24) 8 x (omega arith) (omega (arith, n .within)) q′ e
@@ -361,31 +330,11 @@ none-few : meaning [] ≡ Skipped Few
 unfolding meaning byTokens isComment tokens pieces filled
 none-few = refl
 
--- sums of digits, where no byte was another
+-- what an answer says, where it is known
 module _ (s : List ℕ) (i : ℕ) where
-  pub two-sum : (a b : ℕ) → i + 2 ≤ length s → (a < noDigit → (a < 16) × (a ≡ digitOf (getD s i 0))) → (b < noDigit → (b < 16) × (b ≡ digitOf (getD s (i + 1) 0))) → a * 16 + b < noDigit → (a * 16 + b < 256) × Digits (take 2 (drop i s)) (a * 16 + b)
-  two-sum a b h p q l =
-      let x = p (omega arith) in
-      let y = q (omega arith) in
-      (omega (arith, x .0, y .0), two-digits s i a b h (x .0) (x .1) (y .0) (y .1))
-
-  pub four-sum : (a b c d : ℕ) → i + 4 ≤ length s → (a < noDigit → (a < 16) × (a ≡ digitOf (getD s i 0))) → (b < noDigit → (b < 16) × (b ≡ digitOf (getD s (i + 1) 0))) → (c < noDigit → (c < 16) × (c ≡ digitOf (getD s (i + 2) 0))) → (d < noDigit → (d < 16) × (d ≡ digitOf (getD s (i + 3) 0))) → a * 4096 + b * 256 + c * 16 + d < noDigit → (a * 4096 + b * 256 + c * 16 + d < 65536) × Digits (take 4 (drop i s)) (a * 4096 + b * 256 + c * 16 + d)
-  four-sum a b c d h p q u v l =
-      let x = p (omega arith) in
-      let y = q (omega arith) in
-      let z = u (omega arith) in
-      let w = v (omega arith) in (
-        omega (arith, x .0, y .0, z .0, w .0),
-        subst (λ n. Digits (take 4 (drop i s)) n) (let e : (a * 16 + b) * 256 + (c * 16 + d) ≡ a * 4096 + b * 256 + c * 16 + d = omega arith in e) (four-digits s i (a * 16 + b) (c * 16 + d) h (two-digits s i a b (omega arith) (x .0) (x .1) (y .0) (y .1)) (two-digits s (i + 2) c d (omega arith) (z .0) (z .1) (w .0) (w .1 ∙ ap (λ k. digitOf (getD s k 0)) (let e : i + 3 ≡ i + 2 + 1 = omega arith in e)))),
-      )
-
-  pub eight-sum : (a b : ℕ) → i + 8 ≤ length s → (a < noDigit → (a < 65536) × Digits (take 4 (drop i s)) a) → (b < noDigit → (b < 65536) × Digits (take 4 (drop (i + 4) s)) b) → a * 65536 + b < noDigit → Digits (take 8 (drop i s)) (a * 65536 + b)
-  eight-sum a b h p q l = eight-digits s i a b h (p (omega arith) .1) (q (omega arith) .1)
-
-  -- what an answer says, where it is known
-  pub front-of : (o : Fronts) (f : Front) → o ≡ Read f → FrontsAt s i o → FrontAt s i f
+  pub front-of : (k : ℕ) (o : Fronts) (f : Front) → o ≡ Read f → FrontsAt s i k o → FrontAt s i k f
   unfolding FrontsAt
-  front-of o f e h = subst (λ x. FrontsAt s i x) e h
+  front-of k o f e h = subst (λ x. FrontsAt s i k x) e h
 
   pub columns-met : (n : ℕ) (o : Columns) (r : Register) → o ≡ columns.Record r → ColumnsAt s i n o → MetAt s i (record { met = Record r; end = i + n })
   unfolding ColumnsAt

@@ -4,10 +4,9 @@ ghost use mathlib.Core.Bool.{true};
 ghost use mathlib.Core.List.{[]};
 ghost use Prim.Native.Nat.{_+_, _<_, _≤_};
 ghost use lib.ListN.{length, getD, take, drop};
-ghost use Rattle.util.specs.Number.{digitOf};
 ghost use Rattle.scan.specs.Scan.{isLineFeed, placeFrom};
 ghost use Rattle.columns.specs.Lines.{MetAt};
-ghost use Rattle.columns.specs.Work.{noDigit, Digits, Prefix, Run, Ends, FrontsAt, ColumnsAt, QuickAt};
+ghost use Rattle.columns.specs.Work.{noDigits, packed, Lanes, Joined, Spells, Digits, Parted, Prefix, Run, Ends, FrontsAt, ColumnsAt, QuickAt};
 use register::Met;
 use register::Register;
 use register::Skip;
@@ -21,11 +20,12 @@ pub struct LineAt {
     pub end: usize,
 }
 
-// The first three numbers of a line in the columns that the kernel prints.
+// The first three numbers of a line in the columns that the kernel prints, and one of two digits that stands elsewhere.
 struct Front {
     offset: u16,
     relative_offset: u16,
     cap_id: u16,
+    vs_cap_id: u16,
 }
 
 enum Fronts {
@@ -44,40 +44,86 @@ enum Quick {
     Other,
 }
 
-// What stands for a byte that is no digit: with it no sum of digits looks like a good one, so that one test does for a whole number.
-const NO_DIGIT: u64 = 0x1_0000_0000;
+// What stands for eight bytes that are not all digits: more than eight digits come to.
+const NO_DIGITS: u64 = 0x1_0000_0000;
 
-// A digit of a number in columns.
-fn column(b: u8) -> u64
-    ensures { λ r. ⌜ (r ≤ noDigit) × (r < noDigit → (r < 16) × (r ≡ digitOf b)) ⌝ }
+// A byte of 1, 6, 15 and 48 eight times.
+const ONES: u64 = 0x0101_0101_0101_0101;
+
+const SIXES: u64 = 0x0606_0606_0606_0606;
+
+const FIFTEENS: u64 = 0x0f0f_0f0f_0f0f_0f0f;
+
+const ZERO_DIGITS: u64 = 0x3030_3030_3030_3030;
+
+// Eight bytes as one number, the first lowest.
+fn word(a: u8, b: u8, c: u8, d: u8, e: u8, f: u8, g: u8, h: u8) -> u64
+    ensures { λ r. ⌜ r ≡ packed a b c d e f g h ⌝ }
 {
-    util::digit_or(b, NO_DIGIT)
+    let low = a as u64 + b as u64 * 0x100 + c as u64 * 0x1_0000 + d as u64 * 0x100_0000;
+    let high = e as u64 + f as u64 * 0x100 + g as u64 * 0x1_0000 + h as u64 * 0x100_0000;
+    low + high * 0x1_0000_0000
 }
 
-// The number that two digits write.
-fn two_digits(s: &[u8], i: usize) -> u64
-    requires { ⌜ i + 2 ≤ length (now s) ⌝ }
-    ensures { λ r. ⌜ (r < noDigit → (r < 256) × Digits (take 2 (drop i (now (s .entry)))) r) ⌝ }
+// Eight numbers below 16, one a byte, as digits of one number: the lowest byte is the first digit.
+fn joined(x: u64) -> u64
+    requires { ⌜ Lanes 15 x ⌝ }
+    ensures { λ r. ⌜ Joined x r ⌝ }
 {
-    column(s[i]) * 16 + column(s[i + 1])
+    let pairs = x * 16 + x / 256;
+    let high = pairs % 256 * 256 + pairs / 0x1_0000 % 256;
+    let low = pairs / 0x1_0000_0000 % 256 * 256 + pairs / 0x1_0000_0000_0000 % 256;
+    high * 65536 + low
 }
 
-// The number that four digits write.
-fn four_digits(s: &[u8], i: usize) -> u64
-    requires { ⌜ i + 4 ≤ length (now s) ⌝ }
-    ensures { λ r. ⌜ (r ≤ 0x111100000000) × (r < noDigit → (r < 65536) × Digits (take 4 (drop i (now (s .entry)))) r) ⌝ }
+// The number that eight bytes write, as digits in lower case. They are taken together: x has a guess at each digit, whatever the bytes are, and l has 1 for each letter; then the bytes are compared with what such digits are written as.
+fn hex(w: u64) -> u64
+    ensures { λ r. ⌜ (r ≤ noDigits) × (r < noDigits → Spells w r) ⌝ }
 {
-    column(s[i]) * 4096 + column(s[i + 1]) * 256 + column(s[i + 2]) * 16 + column(s[i + 3])
+    let l = (w / 64) & ONES;
+    let x = ((w & FIFTEENS) + 9 * l) & FIFTEENS;
+    if x + ZERO_DIGITS + 39 * l != w {
+        return NO_DIGITS;
+    }
+    let z = (x + SIXES) & FIFTEENS;
+    if z + 16 * l != x + SIXES {
+        return NO_DIGITS;
+    }
+    joined(x)
 }
 
 // The number that eight digits write.
 fn eight_digits(s: &[u8], i: usize) -> u64
     requires { ⌜ i + 8 ≤ length (now s) ⌝ }
-    ensures { λ r. ⌜ (r < noDigit → Digits (take 8 (drop i (now (s .entry)))) r) ⌝ }
+    ensures { λ r. ⌜ (r < noDigits → Digits (take 8 (drop i (now (s .entry)))) r) ⌝ }
 {
-    let high = four_digits(s, i);
-    let low = four_digits(s, i + 4);
-    high * 65536 + low
+    hex(word(
+        s[i],
+        s[i + 1],
+        s[i + 2],
+        s[i + 3],
+        s[i + 4],
+        s[i + 5],
+        s[i + 6],
+        s[i + 7],
+    ))
+}
+
+// The numbers that four digits, two and two more write, as one.
+fn parted_digits(s: &[u8], i: usize, j: usize, k: usize) -> u64
+    requires { ⌜ (i + 4 ≤ length (now s)) × (j + 2 ≤ length (now s)) × (k + 2 ≤ length (now s)) ⌝ }
+    ensures { λ r. ⌜ (r < noDigits → Parted (now (s .entry)) i j k r) ⌝ }
+{
+    hex(word(
+        s[i],
+        s[i + 1],
+        s[i + 2],
+        s[i + 3],
+        s[j],
+        s[j + 1],
+        s[k],
+        s[k + 1],
+    ))
 }
 
 // Whether `0x` stands there.
@@ -119,10 +165,10 @@ fn padded(s: &[u8], i: usize) -> usize
     i + 3
 }
 
-// `0xhhhh dddd 0xhh`, which a space follows.
-fn read_front(s: &[u8], i: usize) -> Fronts
-    requires { ⌜ (i + 17 ≤ length (now s)) × (getD (now s) (i + 16) 0 ≡ 32) ⌝ }
-    ensures { λ r. ⌜ FrontsAt (now (s .entry)) i r ⌝ }
+// `0xhhhh dddd 0xhh`, which a space follows, and two digits at another place: all of them are read together.
+fn read_front(s: &[u8], i: usize, k: usize) -> Fronts
+    requires { ⌜ (i + 17 ≤ length (now s)) × (k + 2 ≤ length (now s)) × (getD (now s) (i + 16) 0 ≡ 32) ⌝ }
+    ensures { λ r. ⌜ FrontsAt (now (s .entry)) i k r ⌝ }
 {
     if !prefixed(s, i) {
         return Fronts::Other;
@@ -133,12 +179,8 @@ fn read_front(s: &[u8], i: usize) -> Fronts
     if !next_prefixed(s, i + 11) {
         return Fronts::Other;
     }
-    let offset = four_digits(s, i + 2);
-    if 65535 < offset {
-        return Fronts::Other;
-    }
-    let cap = two_digits(s, i + 14);
-    if 255 < cap {
+    let ids = parted_digits(s, i + 2, i + 14, k);
+    if MAX_32 < ids {
         return Fronts::Other;
     }
     let start = padded(s, i + 7);
@@ -146,9 +188,10 @@ fn read_front(s: &[u8], i: usize) -> Fronts
         return Fronts::Other;
     };
     Fronts::Read(Front {
-        offset: offset as u16,
+        offset: (ids / 65536) as u16,
         relative_offset: relative as u16,
-        cap_id: cap as u16,
+        cap_id: (ids / 256 % 256) as u16,
+        vs_cap_id: (ids % 256) as u16,
     })
 }
 
@@ -163,13 +206,9 @@ fn five_columns(s: &[u8], i: usize) -> Columns
     if !next_prefixed(s, i + 21) {
         return Columns::Other;
     }
-    let Fronts::Read(f) = read_front(s, i) else {
+    let Fronts::Read(f) = read_front(s, i, i + 19) else {
         return Columns::Other;
     };
-    let vs = two_digits(s, i + 19);
-    if 255 < vs {
-        return Columns::Other;
-    }
     let value = eight_digits(s, i + 24);
     if MAX_32 < value {
         return Columns::Other;
@@ -178,7 +217,7 @@ fn five_columns(s: &[u8], i: usize) -> Columns
         offset: f.offset,
         relative_offset: f.relative_offset,
         cap_id: f.cap_id,
-        vs_cap_id: vs as u16,
+        vs_cap_id: f.vs_cap_id,
         value: value as u32,
     })
 }
@@ -191,7 +230,7 @@ fn four_columns(s: &[u8], i: usize) -> Columns
     if !next_prefixed(s, i + 16) {
         return Columns::Other;
     }
-    let Fronts::Read(f) = read_front(s, i) else {
+    let Fronts::Read(f) = read_front(s, i, i + 14) else {
         return Columns::Other;
     };
     let value = eight_digits(s, i + 19);

@@ -1,6 +1,8 @@
 -- `columns::five_columns` meets its contract.
 use denote.Ref.{now}
+use Prim.Native.Nat.{_+_}
 use native.Mathlib.Omega.{arith}
+use mathlib.Core.Path.{refl}
 use borrow.Author.Tests.{not-false}
 use Rattle.columns.specs.Work.{ColumnsAt}
 use Rattle.register.specs.Line.{registerOf}
@@ -29,8 +31,11 @@ returns-2 : tie.Need-returns-2
 unfolding ColumnsAt
 returns-2 c = tt
 
+add-read-front : tie.Need-add-read-front
+add-read-front c = search needs
+
 read-front-requires : tie.Need-read-front-requires
-read-front-requires c κs = let g = c .before .before .before .before .before in (omega (arith, g .pre .within), c .before .before .before .next-prefixed .ensures (not-false _ (c .before .before .if1 .left)) .0)
+read-front-requires c κs = let g = c .before .before .before .before .before in (omega (arith, g .pre .within), omega (arith, g .pre .within), c .before .before .before .next-prefixed .ensures (not-false _ (c .before .before .if1 .left)) .0)
 
 enum-known-f : tie.Need-enum-known-f
 enum-known-f c = search needs
@@ -42,35 +47,28 @@ returns-3 : tie.Need-returns-3
 unfolding ColumnsAt
 returns-3 c = tt
 
-add-two-digits : tie.Need-add-two-digits
-add-two-digits c = search needs
-
-two-digits-requires : tie.Need-two-digits-requires
-two-digits-requires c κs = search needs
-
-returns-4 : tie.Need-returns-4
-unfolding ColumnsAt
-returns-4 c = tt
-
 add-eight-digits : tie.Need-add-eight-digits
 add-eight-digits c = search needs
 
 eight-digits-requires : tie.Need-eight-digits-requires
 eight-digits-requires c κs = search needs
 
-returns-5 : tie.Need-returns-5
+returns-4 : tie.Need-returns-4
 unfolding ColumnsAt
-returns-5 c = tt
+returns-4 c = tt
 
-cast-t10 : tie.Need-cast-t10
-cast-t10 c = search needs
+cast-t9 : tie.Need-cast-t9
+cast-t9 c = search needs
 
-cast-t11 : tie.Need-cast-t11
-cast-t11 c = search needs
-
-returns-6 : tie.Need-returns-6
+returns-5 : tie.Need-returns-5
 unfolding ColumnsAt registerOf
-returns-6 c = let g = c .before .before .before .before .before .before .before .before .before .before .before .before .before in five-columns (now (g .args .s)) (g .args .i) (c .before .before .before .before .before .f .given .0 .0) _ (front-of (now (g .args .s)) (g .args .i) _ _ (c .before .before .before .before .before .f .given .1) (c .before .before .before .before .before .before .before .read-front .ensures)) (c .if4 .left) _ (g .pre) (c .before .before .before .before .before .before .before .before .before .before .before .next-prefixed .ensures (not-false _ (c .before .before .before .before .before .before .before .before .before .before .if1 .left)) .1) (c .before .before .before .before .before .before .before .before .before .next-prefixed2 .ensures (not-false _ (c .before .before .before .before .before .before .before .before .if2 .left)) .0) (c .before .before .before .before .before .before .before .before .before .next-prefixed2 .ensures (not-false _ (c .before .before .before .before .before .before .before .before .if2 .left)) .1) (c .before .before .before .two-digits .ensures (omega arith) .1) (c .before .before .if3 .left) (c .before .eight-digits .ensures (omega arith))
+returns-5 c =
+    let g = c .before .before .before .before .before .before .before .before .before .before .before in
+    let s = now (g .args .s) in
+    let i = g .args .i in
+    let p = c .before .before .before .before .before .before .before .before .before .next-prefixed .ensures (not-false _ (c .before .before .before .before .before .before .before .before .if1 .left)) in
+    let q = c .before .before .before .before .before .before .before .next-prefixed2 .ensures (not-false _ (c .before .before .before .before .before .before .if2 .left)) in
+    five-columns s i (i + 19) (c .before .before .before .f .given .0 .0) _ (front-of s i (i + 19) _ _ (c .before .before .before .f .given .1) (c .before .before .before .before .before .read-front .ensures)) (c .if3 .left) refl (g .pre) (p .1) (q .0) (q .1) (c .before .eight-digits .ensures (omega (arith, c .if3 .left)))
 
 pub five-columns-spec : {M : Type 1} → statement M
 five-columns-spec =
@@ -82,16 +80,13 @@ five-columns-spec =
     add-next-prefixed-2
     next-prefixed-requires-2
     returns-2
+    add-read-front
     read-front-requires
     enum-known-f
     enum-told
     returns-3
-    add-two-digits
-    two-digits-requires
-    returns-4
     add-eight-digits
     eight-digits-requires
-    returns-5
-    cast-t10
-    cast-t11
-    returns-6)
+    returns-4
+    cast-t9
+    returns-5)

@@ -1,5 +1,6 @@
 -- `columns::four_columns` meets its contract.
 use denote.Ref.{now}
+use Prim.Native.Nat.{_+_}
 use native.Mathlib.Omega.{arith}
 use borrow.Author.Tests.{not-false}
 use Rattle.columns.specs.Work.{ColumnsAt}
@@ -19,8 +20,11 @@ returns : tie.Need-returns
 unfolding ColumnsAt
 returns c = tt
 
+add-read-front : tie.Need-add-read-front
+add-read-front c = search needs
+
 read-front-requires : tie.Need-read-front-requires
-read-front-requires c κs = let g = c .before .before .before in (omega (arith, g .pre .within), c .before .next-prefixed .ensures (not-false _ (c .if1 .left)) .0)
+read-front-requires c κs = let g = c .before .before .before in (omega (arith, g .pre .within), omega (arith, g .pre .within), c .before .next-prefixed .ensures (not-false _ (c .if1 .left)) .0)
 
 enum-known-f : tie.Need-enum-known-f
 enum-known-f c = search needs
@@ -47,7 +51,12 @@ cast-t9 c = search needs
 
 returns-4 : tie.Need-returns-4
 unfolding ColumnsAt registerOf
-returns-4 c = let g = c .before .before .before .before .before .before .before .before .before in four-columns (now (g .args .s)) (g .args .i) (c .before .before .before .f .given .0 .0) _ (front-of (now (g .args .s)) (g .args .i) _ _ (c .before .before .before .f .given .1) (c .before .before .before .before .before .read-front .ensures)) (c .if2 .left) (g .pre) (c .before .before .before .before .before .before .before .next-prefixed .ensures (not-false _ (c .before .before .before .before .before .before .if1 .left)) .1) (c .before .eight-digits .ensures (omega arith))
+returns-4 c =
+    let g = c .before .before .before .before .before .before .before .before .before in
+    let s = now (g .args .s) in
+    let i = g .args .i in
+    let p = c .before .before .before .before .before .before .before .next-prefixed .ensures (not-false _ (c .before .before .before .before .before .before .if1 .left)) in
+    four-columns s i (i + 14) (c .before .before .before .f .given .0 .0) _ (front-of s i (i + 14) _ _ (c .before .before .before .f .given .1) (c .before .before .before .before .before .read-front .ensures)) (c .if2 .left) (g .pre) (p .1) (c .before .eight-digits .ensures (omega (arith, c .if2 .left)))
 
 pub four-columns-spec : {M : Type 1} → statement M
 four-columns-spec =
@@ -56,6 +65,7 @@ four-columns-spec =
     add-next-prefixed
     next-prefixed-requires
     returns
+    add-read-front
     read-front-requires
     enum-known-f
     enum-told

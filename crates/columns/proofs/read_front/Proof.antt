@@ -39,25 +39,18 @@ returns-3 : tie.Need-returns-3
 unfolding FrontsAt
 returns-3 c = tt
 
-add-four-digits : tie.Need-add-four-digits
-add-four-digits c = search needs
+add-parted-digits : tie.Need-add-parted-digits
+add-parted-digits c = search needs
 
-four-digits-requires : tie.Need-four-digits-requires
-four-digits-requires c κs = search needs
+add-parted-digits-2 : tie.Need-add-parted-digits-2
+add-parted-digits-2 c = search needs
+
+parted-digits-requires : tie.Need-parted-digits-requires
+parted-digits-requires c κs = search needs
 
 returns-4 : tie.Need-returns-4
 unfolding FrontsAt
 returns-4 c = tt
-
-add-two-digits : tie.Need-add-two-digits
-add-two-digits c = search needs
-
-two-digits-requires : tie.Need-two-digits-requires
-two-digits-requires c κs = search needs
-
-returns-5 : tie.Need-returns-5
-unfolding FrontsAt
-returns-5 c = tt
 
 add-padded : tie.Need-add-padded
 add-padded c = search needs
@@ -86,22 +79,28 @@ enum-known-relative c = search needs
 enum-told : tie.Need-enum-told
 enum-told c = search needs
 
-returns-6 : tie.Need-returns-6
+returns-5 : tie.Need-returns-5
 unfolding FrontsAt
-returns-6 c = tt
-
-cast-t17 : tie.Need-cast-t17
-cast-t17 c = search needs
+returns-5 c = tt
 
 cast-t18 : tie.Need-cast-t18
-cast-t18 c = record { fits = lt-of-le-of-lt (decimal-le 0xffff _ _ (sym (c .before .before .before .parse-decimal .ensures) ∙ c .before .relative .given .1)) (lit< tt) }
+cast-t18 c = search needs
 
 cast-t19 : tie.Need-cast-t19
-cast-t19 c = search needs
+cast-t19 c = record { fits = lt-of-le-of-lt (decimal-le 0xffff _ _ (sym (c .before .before .before .parse-decimal .ensures) ∙ c .before .relative .given .1)) (lit< tt) }
 
-returns-7 : tie.Need-returns-7
+cast-t22 : tie.Need-cast-t22
+cast-t22 c = search needs
+
+cast-t24 : tie.Need-cast-t24
+cast-t24 c = search needs
+
+returns-6 : tie.Need-returns-6
 unfolding FrontsAt
-returns-7 c = let g = c .before .before .before .before .before .before .before .before .before .before .before .before .before .before .before .before .before in front-at (now (g .args .s)) (g .args .i) _ _ _ _ (g .pre .0) (g .pre .1) (c .before .before .before .before .before .before .before .before .before .before .before .before .before .before .before .prefixed .ensures (not-false _ (c .before .before .before .before .before .before .before .before .before .before .before .before .before .before .if1 .left))) (c .before .before .before .before .before .before .before .before .before .before .before .before .if2 .left) (c .before .before .before .before .before .before .before .before .before .before .before .next-prefixed .ensures (not-false _ (c .before .before .before .before .before .before .before .before .before .before .if3 .left)) .0) (c .before .before .before .before .before .before .before .before .before .before .before .next-prefixed .ensures (not-false _ (c .before .before .before .before .before .before .before .before .before .before .if3 .left)) .1) (c .before .before .before .before .before .before .before .before .before .four-digits .ensures .1 (omega arith) .1) (c .before .before .before .before .before .before .before .before .if4 .left) (c .before .before .before .before .before .before .before .two-digits .ensures (omega arith) .1) (c .before .before .before .before .before .before .if5 .left) (c .before .before .before .before .before .padded .ensures .0) (c .before .before .before .before .before .padded .ensures .1) (sym (c .before .before .before .parse-decimal .ensures) ∙ c .before .relative .given .1)
+returns-6 c =
+    let g = c .before .before .before .before .before .before .before .before .before .before .before .before .before .before .before in
+    let x = c .before .before .before .before .before .before .before .before .before .next-prefixed .ensures (not-false _ (c .before .before .before .before .before .before .before .before .if3 .left)) in
+    front-at (now (g .args .s)) (g .args .i) (g .args .k) _ _ _ (g .pre .0) (g .pre .2) (c .before .before .before .before .before .before .before .before .before .before .before .before .before .prefixed .ensures (not-false _ (c .before .before .before .before .before .before .before .before .before .before .before .before .if1 .left))) (c .before .before .before .before .before .before .before .before .before .before .if2 .left) (x .0) (x .1) (c .before .before .before .before .before .before .before .parted-digits .ensures (omega (arith, c .before .before .before .before .before .before .if4 .left))) (c .before .before .before .before .before .before .if4 .left) (c .before .before .before .before .before .padded .ensures .0) (c .before .before .before .before .before .padded .ensures .1) (sym (c .before .before .before .parse-decimal .ensures) ∙ c .before .relative .given .1)
 
 pub read-front-spec : {M : Type 1} → statement M
 read-front-spec =
@@ -115,12 +114,10 @@ read-front-spec =
     add-next-prefixed
     next-prefixed-requires
     returns-3
-    add-four-digits
-    four-digits-requires
+    add-parted-digits
+    add-parted-digits-2
+    parted-digits-requires
     returns-4
-    add-two-digits
-    two-digits-requires
-    returns-5
     add-padded
     padded-requires
     add-parse-decimal
@@ -130,8 +127,9 @@ read-front-spec =
     parse-decimal-requires
     enum-known-relative
     enum-told
-    returns-6
-    cast-t17
+    returns-5
     cast-t18
     cast-t19
-    returns-7)
+    cast-t22
+    cast-t24
+    returns-6)
