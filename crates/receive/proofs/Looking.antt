@@ -8,15 +8,16 @@ use lib.Dec.{eqb}
 use borrow.Author.Tests.{eqb-true, eq-eqb}
 use native.Mathlib.Omega.{arith}
 use Rattle.refusal.specs.Outcome.{Outcome, value, bind}
-use Rattle.tables.specs.Rows.{entryIn}
+use Rattle.tables.specs.Rows.{EntryRow, entryIn}
 use Rattle.tables.specs.Packed.{entryWord, entriesIn}
+use Rattle.tables.specs.Found.{entryFound}
 use Rattle.load.specs.declared.Refusal.{Refusal}
 use Rattle.fabric.specs.Tables.{rowsWith}
 use Rattle.search.specs.Ahead.{HopAhead}
 use Rattle.search.specs.declared.HopAt.{HopAt}
 use Rattle.search.specs.declared.HopAt.the-variants as hop
 use Rattle.walk.specs.Rule.{walkFrom}
-use Rattle.walk.specs.Tables.{rowsOf, Tabled, Leaving, leaves, Tallied, tallyOutcome, hopsBy as hopsOfWalk}
+use Rattle.walk.specs.Tables.{rowsOf, Tabled, Leaving, leaves, Tallied, Onward, tallyOutcome, hopsBy as hopsOfWalk}
 use Rattle.walk.specs.declared.Walked.{Walked}
 use Rattle.walk.specs.declared.Walked.the-variants as walked
 use Rattle.receive.specs.Receive.{at, Receive, orRest, orNext}
@@ -45,20 +46,23 @@ module _ (en ad ro ma : List ℕ) (ring q n h hi : ℕ) where
     pub looked-over : u ≡ hop.None → Looked en ad ro ma ring q n h hi step.Over
     looked-over e = looked-none (λ t l i a b. ahead .over l (t .entryOrder) e i a)
 
-    module _ {k : ℕ} (e : u ≡ hop.Hop k) where
+    module _ {k out x : ℕ} (e : u ≡ hop.Hop k out x) where
       pub looked-past : hi < k → Looked en ad ro ma ring q n h hi step.Over
-      looked-past m = looked-none (λ t l i a b. ahead .first l (t .entryOrder) k e .0 i a (omega arith))
+      looked-past m = looked-none (λ t l i a b. ahead .first l (t .entryOrder) k out x e i a (omega arith))
 
       -- a HopID has 16 bits
       narrow : k < 65536
-      unfolding entryWord
-      narrow = omega (arith, ahead .held k e .4)
+      unfolding entryWord entryFound
+      narrow = let held = ahead .found k out x e .held _ refl in omega (arith, ap (λ (r : EntryRow). r .inHop) (held .2))
 
       -- at the walk from the HopID that is next
-      module _ (below : k ≤ hi) {w : Walked} (tally : Tallied en ad ro ma (record { place = q; adapter = n; hopId = k }) w) where
+      module _ (below : k ≤ hi) {w : Walked} (onward : Onward en ad ro ma q out x w) where
+        tally : Tallied en ad ro ma (record { place = q; adapter = n; hopId = k }) w
+        tally = onward .ends n k (ahead .found k out x e)
+
         there : Tabled en ad ro → q < 65536 → (v : ℕ) → upTo (rowsOf en ad ro ma) v q n h hi ≡ bind (walkFrom (rowsOf en ad ro ma) (at q n k)) (orRest v (upTo (rowsOf en ad ro ma) v q n (k + 1) hi))
         unfolding rowsOf rowsWith
-        there t l v = leap (rowsOf en ad ro ma) v q n h k hi (ahead .from k e) (omega arith) (ahead .first l (t .entryOrder) k e .0) ∙ first-walk (rowsOf en ad ro ma) v q n k hi below
+        there t l v = leap (rowsOf en ad ro ma) v q n h k hi (ahead .from k out x e) (omega arith) (ahead .first l (t .entryOrder) k out x e) ∙ first-walk (rowsOf en ad ro ma) v q n k hi below
 
         come : (o : Walked) → w ≡ o → Tabled en ad ro → q < 65536 → tallyOutcome o ≡ bind (walkFrom (rowsOf en ad ro ma) (at q n k)) (λ o. value (leaves o))
         unfolding at
@@ -69,7 +73,7 @@ module _ (en ad ro ma : List ℕ) (ring q n h hi : ℕ) where
         unfolding Stepped endHops tallyOutcome
         looked-absent g = record {
           stepped = λ t l v. there t l v ∙ walk-absent v _ _ (come walked.Absent g t l);
-          further = λ j f. let z : k + 1 ≡ j = cc in (omega (arith, ahead .from k e), omega (arith, narrow));
+          further = λ j f. let z : k + 1 ≡ j = cc in (omega (arith, ahead .from k out x e), omega (arith, narrow));
           passed = λ j o f. absurd (let z : _≡_ {A = ℕ} 0 1 = cc in omega arith);
           fitting = λ a f. absurd (let z : _≡_ {A = ℕ} 0 1 = cc in omega arith);
           few = omega arith;
@@ -109,7 +113,7 @@ module _ (en ad ro ma : List ℕ) (ring q n h hi : ℕ) where
           looked-other f narrow-too = record {
             stepped = told;
             further = λ j i. absurd (let z : _≡_ {A = ℕ} 0 1 = cc in omega arith);
-            passed = λ j i z. let y : k ≡ j = cc in let u : o ≡ i = cc in (omega (arith, ahead .from k e), omega (arith, narrow), omega arith, λ d. f (u ∙ d));
+            passed = λ j i z. let y : k ≡ j = cc in let u : o ≡ i = cc in (omega (arith, ahead .from k out x e), omega (arith, narrow), omega arith, λ d. f (u ∙ d));
             fitting = λ a z. absurd (let y : _≡_ {A = ℕ} 0 1 = cc in omega arith);
             few = omega arith;
           }

@@ -153,14 +153,19 @@ fn look_at(
     if 65535 < hop {
         return Step::Over;
     }
-    let HopAt::Hop(h) = search::next_hop(entries, place, adapter, hop as u16) else {
+    let HopAt::Hop {
+        hop: h,
+        out_adapter: out,
+        out_hop,
+    } = search::next_hop(entries, place, adapter, hop as u16)
+    else {
         return Step::Over;
     };
     let at = h as u32;
     if most < at {
         return Step::Over;
     }
-    match walk::tally(entries, adapters, routes, marks, place, adapter, h) {
+    match walk::onward(entries, adapters, routes, marks, place, out, out_hop) {
         Walked::Refused(refusal) => Step::Refused(refusal),
         Walked::Absent => Step::On(at + 1),
         Walked::Path {

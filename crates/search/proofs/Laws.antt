@@ -1,7 +1,7 @@
 -- Laws on the next HopID that has an entry. Assumes nothing.
 use Prim.Native.Nat.{ℕ, _+_, _*_, _/_, _%_, _≤_, _<_}
 use mathlib.Core.Bool.{Bool, true, false, _&&_}
-use mathlib.Core.Path.{_≡_, refl, sym, ap}
+use mathlib.Core.Path.{_≡_, refl, sym, ap, subst}
 use mathlib.Core.List.{List, [], _∷_}
 use mathlib.Core.Option.{Option, none, some, Option·none-ne-some}
 use native.Mathlib.Omega.{arith}
@@ -11,24 +11,30 @@ use lib.ListN.{length, getD}
 use borrow.Author.Tests.{ne-eqb}
 use Rattle.tables.specs.Rows.{entryIn}
 use Rattle.tables.specs.Packed.{entryWord, entriesIn, entryUnit, Sorted}
-use Rattle.tables.specs.Found.{Boundary, entryFound}
+use Rattle.tables.specs.Found.{Boundary, EntrySought, entryFound}
+use Rattle.tables.specs.declared.EntryAt.the-variants as entry
 use Rattle.tables.proofs.Laws.{keyOf, entry-missing, entry-found}
 use Rattle.search.specs.Ahead.{HopAhead}
 use Rattle.search.specs.declared.HopAt.{HopAt}
 use Rattle.search.specs.declared.HopAt.the-variants as hop
 
-hop-same : (i k : ℕ) → hop.Hop i ≡ hop.Hop k → i ≡ k
-hop-same i k e = ap number e
+-- what is found, if it is from h on and has its entry
+Ahead : List ℕ → ℕ → ℕ → ℕ → HopAt → Type 0
+Ahead t p a h (hop.Hop k o x) = (h ≤ k) × EntrySought t p a k (entry.Entry o x)
+Ahead t p a h hop.None = Unit {0}
+
+hop-same : {i o x k o′ x′ : ℕ} → hop.Hop i o x ≡ hop.Hop k o′ x′ → i ≡ k
+hop-same e = ap number e
   where
     number : HopAt → ℕ
-    number (hop.Hop n) = n
+    number (hop.Hop n o x) = n
     number hop.None = 0
 
-no-hop : (k : ℕ) → hop.None ≡ hop.Hop k → ⊥
-no-hop k e = Option·none-ne-some k (ap number e)
+no-hop : {k o x : ℕ} → hop.None ≡ hop.Hop k o x → ⊥
+no-hop {k} e = Option·none-ne-some k (ap number e)
   where
     number : HopAt → Option ℕ
-    number (hop.Hop n) = some n
+    number (hop.Hop n o x) = some n
     number hop.None = none
 
 and-false : (x : Bool) → (x && false) ≡ false
@@ -42,7 +48,7 @@ past-hops [] p a j l = refl
 past-hops (w ∷ t) p a j l = rw (ne-eqb (w / 16777216 % 65536) j (λ e. omega arith), and-false (eqb (w / 281474976710656) p && eqb (w / 1099511627776 % 256) a)) (past-hops t p a j l)
 
 pub hop-past : (t : List ℕ) (p a h : ℕ) → 65535 < p → HopAhead t p a h hop.None
-hop-past t p a h l = record { first = λ q s. absurd (omega arith); over = λ q s. absurd (omega arith); past = λ q. refl; from = λ k e. absurd (no-hop k e); held = λ k e. absurd (no-hop k e) }
+hop-past t p a h l = record { first = λ q s. absurd (omega arith); over = λ q s. absurd (omega arith); past = λ q. refl; from = λ k o x e. absurd (no-hop e); found = λ k o x e. absurd (no-hop e) }
 
 -- the boundary of a HopID is that of each one after it, up to the key that stands there
 module _ (t : List ℕ) (p a h r : ℕ) (lp : p < 65536) (la : a < 256) (b : Boundary t (((p * 256 + a) * 65536 + h) * 16777216) r) where
@@ -55,7 +61,7 @@ module _ (t : List ℕ) (p a h r : ℕ) (lp : p < 65536) (la : a < 256) (b : Bou
   skipped j s l m n = sym (entry-missing t p a j r lp la m (later j l (λ q. omega (arith, n q))) (λ q e. omega (arith, n q)) .first lp s)
 
   pub hop-over : (r < length t → getD t r 0 / 1099511627776 ≡ p * 256 + a → ⊥) → HopAhead t p a h hop.None
-  hop-over n = record { first = λ q s k e. absurd (no-hop k e); over = λ q s e. none-from s; past = λ q. refl; from = λ k e. absurd (no-hop k e); held = λ k e. absurd (no-hop k e) }
+  hop-over n = record { first = λ q s k o x e. absurd (no-hop e); over = λ q s e. none-from s; past = λ q. refl; from = λ k o x e. absurd (no-hop e); found = λ k o x e. absurd (no-hop e) }
     where
       none-from : Sorted entryUnit t → (j : ℕ) → h ≤ j → entryIn (entriesIn t) p a j ≡ none
       none-from s j l = go (decLt j 65536)
@@ -64,16 +70,16 @@ module _ (t : List ℕ) (p a h r : ℕ) (lp : p < 65536) (la : a < 256) (b : Bou
           go (yes m) = skipped j s l m (λ q. omega (arith, b .above q, n q))
           go (no m) = past-hops t p a j (omega arith)
 
-  pub hop-found : r < length t → getD t r 0 / 1099511627776 ≡ p * 256 + a → HopAhead t p a h (hop.Hop (getD t r 0 / 16777216 % 65536))
-  unfolding entryWord entryFound
+  pub hop-found : r < length t → getD t r 0 / 1099511627776 ≡ p * 256 + a → HopAhead t p a h (hop.Hop (getD t r 0 / 16777216 % 65536) (getD t r 0 / 65536 % 256) (getD t r 0 % 65536))
+  unfolding Ahead
   hop-found l e = record {
-    first = λ q s k g. let key : getD t r 0 / 16777216 ≡ keyOf p a k = omega (arith, hop-same _ k g) in
-        (λ j m n. skipped j s m (omega (arith, hop-same _ k g)) (λ q. omega arith), (_, sym (entry-found t p a k r lp la (omega (arith, hop-same _ k g)) (later k (above-from k g) (λ q. omega arith)) l key .first lp s)));
-    over = λ q s g. absurd (no-hop _ (sym g));
+    first = λ q s k o x g j m n. skipped j s m (omega (arith, hop-same g)) (λ z. omega (arith, hop-same g));
+    over = λ q s g. absurd (no-hop (sym g));
     past = λ q. absurd (omega arith);
-    from = above-from;
-    held = λ k g. (r, l, omega arith, omega arith, hop-same _ k g);
+    from = λ k o x g. subst (λ (u : HopAt). Ahead t p a h u) g there .0;
+    found = λ k o x g. subst (λ (u : HopAt). Ahead t p a h u) g there .1;
   }
     where
-      above-from : (k : ℕ) → hop.Hop (getD t r 0 / 16777216 % 65536) ≡ hop.Hop k → h ≤ k
-      above-from k g = omega (arith, b .above l, hop-same _ k g)
+      there : Ahead t p a h (hop.Hop (getD t r 0 / 16777216 % 65536) (getD t r 0 / 65536 % 256) (getD t r 0 % 65536))
+      there = let above : h ≤ getD t r 0 / 16777216 % 65536 = omega (arith, b .above l) in
+          (above, entry-found t p a (getD t r 0 / 16777216 % 65536) r lp la (omega arith) (later (getD t r 0 / 16777216 % 65536) above (λ q. omega arith)) l (omega arith))

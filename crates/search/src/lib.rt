@@ -6,9 +6,13 @@ ghost use Rattle.tables.specs.Found.{EntrySought, AdapterSought};
 use tables::AdapterFound;
 use tables::EntryAt;
 
-// A HopID, or there is none.
+// A HopID with the out adapter and out HopID of its entry, or there is none.
 pub enum HopAt {
-    Hop(u16),
+    Hop {
+        hop: u16,
+        out_adapter: u8,
+        out_hop: u16,
+    },
     None,
 }
 
@@ -47,7 +51,7 @@ pub fn find_entry(entries: &[u64], place: usize, adapter: u8, hop: u16) -> Entry
     }
 }
 
-// The next HopID of an adapter of a device, from `hop` on, that has an entry.
+// The next HopID of an adapter of a device, from `hop` on, that has an entry, with its first entry.
 pub fn next_hop(entries: &[u64], place: usize, adapter: u8, hop: u16) -> HopAt
     ensures { λ r. ⌜ HopAhead (now (entries .entry)) place adapter hop r ⌝ }
 {
@@ -63,7 +67,14 @@ pub fn next_hop(entries: &[u64], place: usize, adapter: u8, hop: u16) -> HopAt
     if w / 1099511627776 != owner {
         return HopAt::None;
     }
-    HopAt::Hop((w / 16777216 % 65536) as u16)
+    let next = (w / 16777216 % 65536) as u16;
+    let out_adapter = (w / 65536 % 256) as u8;
+    let out_hop = (w % 65536) as u16;
+    HopAt::Hop {
+        hop: next,
+        out_adapter,
+        out_hop,
+    }
 }
 
 // The word of the adapter of a device with a number.

@@ -29,8 +29,7 @@ use Rattle.orbit.specs.Walk.{Turn.ends as comes-to, Spot.ended, hopsN}
 use Rattle.orbit.proofs.Orbit.{Reached, reach-start, reach-on, reach-ends, reach-stops, reach-hops, reach-never, length-hops}
 use Rattle.walk.specs.Walking.{Stand, End, End.path, End.noPath, End.fault, turnBy, walkOn, pathOf}
 use Rattle.walk.specs.Rule.{settled, walkFrom, inRoom}
-use Rattle.walk.specs.Tables.{rowsOf, Tabled, Leaving, lastOf, leavingBy, leavingOf, leaves, tallyOutcome, hopsOutcome, hopsBy, isPath, noNeed, Tallied}
-use Rattle.walk.specs.Work.{Onward}
+use Rattle.walk.specs.Tables.{rowsOf, Tabled, Leaving, lastOf, leavingBy, leavingOf, leaves, tallyOutcome, hopsOutcome, hopsBy, isPath, noNeed, Tallied, Onward}
 use Rattle.walk.specs.declared.Walked.{Walked}
 use Rattle.walk.specs.declared.Walked.the-variants as walked
 use Rattle.walk.proofs.Laws.{ranked, walk-ends, walk-never, hopped, sound, rule}
@@ -278,21 +277,31 @@ module _ (en ad ro ma : List ℕ) {p₀ o₀ h₀ : ℕ} where
   pub kept-start : Kept en ad ro ma p₀ o₀ h₀ 0 p₀ o₀ h₀
   kept-start = record { going = λ a k q. hopping-start en ad ro ma (at p₀ a k) q }
 
+  -- a path has a hop
+  path-by : {n p o h : ℕ} → n < length en → ((a k : ℕ) → EntrySought en p₀ a k (entry.Entry o₀ h₀) → Tallied en ad ro ma (at p₀ a k) (walked.Path (n + 1) p o h)) → Onward en ad ro ma p₀ o₀ h₀ (walked.Path (n + 1) p o h)
+  unfolding hopsBy isPath
+  path-by {n} m e = record { ends = e; few = omega arith; one = sym (lt-ltb 0 (n + 1) (omega arith)) }
+
+  refused-by : {r : Refusal} → ((a k : ℕ) → EntrySought en p₀ a k (entry.Entry o₀ h₀) → Tallied en ad ro ma (at p₀ a k) (walked.Refused r)) → Onward en ad ro ma p₀ o₀ h₀ (walked.Refused r)
+  unfolding hopsBy isPath
+  refused-by e = record { ends = e; few = omega arith; one = refl }
+
   pub kept-ring : {n p o h : ℕ} → Kept en ad ro ma p₀ o₀ h₀ n p o h → length en ≤ n → Onward en ad ro ma p₀ o₀ h₀ (walked.Refused (refusal.Fault Endless))
-  kept-ring g m = record { ends = λ a k q. let j = g .going a k q in tallied-refused en ad ro ma _ (j .near) (λ t. hop-ring en ad ro ma _ (j .made t) (omega (arith, j .few))) }
+  kept-ring g m = refused-by (λ a k q. let j = g .going a k q in tallied-refused en ad ro ma _ (j .near) (λ t. hop-ring en ad ro ma _ (j .made t) (omega (arith, j .few))))
 
   module _ {n p o h : ℕ} {w : Next} (g : Kept en ad ro ma p₀ o₀ h₀ n p o h) (m : n < length en) (l : LeadsTo ad ro ma (λ x. leads x p o) w) where
     pub kept-last : w ≡ next.Last → Onward en ad ro ma p₀ o₀ h₀ (walked.Path (n + 1) p o h)
-    kept-last e = record { ends = λ a k q. let j = g .going a k q in tallied-path en ad ro ma _ (j .near) m (λ t. hop-last en ad ro ma _ t (j .made t) l e) }
+    kept-last e = path-by m (λ a k q. let j = g .going a k q in tallied-path en ad ro ma _ (j .near) m (λ t. hop-last en ad ro ma _ t (j .made t) l e))
 
     pub kept-dropped : w ≡ next.Dropped → Onward en ad ro ma p₀ o₀ h₀ walked.Absent
-    kept-dropped e = record { ends = λ a k q. tallied-absent en ad ro ma _ (λ t z. hop-dropped en ad ro ma _ t (g .going a k q .made t) l e) }
+    unfolding hopsBy isPath
+    kept-dropped e = record { ends = λ a k q. tallied-absent en ad ro ma _ (λ t z. hop-dropped en ad ro ma _ t (g .going a k q .made t) l e); few = omega arith; one = refl }
 
     pub kept-refused : {r : Refusal} → w ≡ next.Refused r → Onward en ad ro ma p₀ o₀ h₀ (walked.Refused r)
-    kept-refused e = record { ends = λ a k q. let j = g .going a k q in tallied-refused en ad ro ma _ (j .near) (λ t. hop-refused en ad ro ma _ t (j .made t) l e) }
+    kept-refused e = refused-by (λ a k q. let j = g .going a k q in tallied-refused en ad ro ma _ (j .near) (λ t. hop-refused en ad ro ma _ t (j .made t) l e))
 
     pub kept-stops : {q b : ℕ} {r : EntryAt} → w ≡ next.On q b → EntrySought en q b h r → r ≡ entry.Missing → Onward en ad ro ma p₀ o₀ h₀ (walked.Path (n + 1) p o h)
-    kept-stops e f z = record { ends = λ a k q. let j = g .going a k q in tallied-path en ad ro ma _ (j .near) m (λ t. going-stops en ad ro ma _ t (hop-on en ad ro ma _ t (j .made t) l e) f z) }
+    kept-stops e f z = path-by m (λ a k q. let j = g .going a k q in tallied-path en ad ro ma _ (j .near) m (λ t. going-stops en ad ro ma _ t (hop-on en ad ro ma _ t (j .made t) l e) f z))
 
     pub kept-on : {q b o′ h′ : ℕ} {r : EntryAt} → w ≡ next.On q b → EntrySought en q b h r → r ≡ entry.Entry o′ h′ → Kept en ad ro ma p₀ o₀ h₀ (n + 1) q o′ h′
     kept-on e f z = record { going = λ a k q. hopping-on en ad ro ma _ (g .going a k q) m l e f z }

@@ -1,4 +1,3 @@
 pub mod Walking
 pub mod Rule
 pub mod Tables
-pub mod Work

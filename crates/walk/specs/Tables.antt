@@ -9,6 +9,8 @@ use lib.ListN.{length}
 use Rattle.refusal.specs.Outcome.{Outcome, value, bind}
 use Rattle.tables.specs.Rows.{EntryRow, DeviceRow, Rows}
 use Rattle.tables.specs.Packed.{entriesIn, entryUnit, adapterUnit, Sorted}
+use Rattle.tables.specs.Found.{EntrySought}
+use Rattle.tables.specs.declared.EntryAt.the-variants as entry
 use Rattle.load.specs.Answers.{refusedBy, askedDevice}
 use Rattle.fabric.specs.Tables.{rowsWith}
 use Rattle.walk.specs.Walking.{Stand}
@@ -83,3 +85,9 @@ pub record Tallied (en ad ro ma : List ℕ) (s : Stand) (r : Walked) : Type 0 wh
   -- every start at a device that is there
   pub walks : Tabled en ad ro → (d : DeviceRow) → askedDevice (rowsOf en ad ro ma) (s .place) ≡ value d
       → WalkRule (rowsOf en ad ro ma) s noNeed 0 (λ hs. tallyOutcome r ≡ value (leavingOf hs)) (hopsOutcome r)
+
+-- How each walk ends that starts at the device at place p and finds there an entry with this out adapter and out HopID. Where no such entry stands it is free, but that a path has a hop, and no more than there are entries.
+pub record Onward (en ad ro ma : List ℕ) (p out hop : ℕ) (r : Walked) : Type 0 where
+  pub ends : (a h : ℕ) → EntrySought en p a h (entry.Entry out hop) → Tallied en ad ro ma (record { place = p; adapter = a; hopId = h }) r
+  pub few : hopsBy r ≤ length en
+  pub one : isPath r ≡ ltb 0 (hopsBy r)

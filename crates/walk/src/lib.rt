@@ -1,7 +1,6 @@
 // The walk (module 7, `discover_path`) on the tables that a survey is loaded to.
 ghost use Rattle.walk.specs.Walking.{Stand};
-ghost use Rattle.walk.specs.Tables.{Tallied};
-ghost use Rattle.walk.specs.Work.{Onward};
+ghost use Rattle.walk.specs.Tables.{Tallied, Onward};
 use fabric::Next;
 use load::Refusal;
 use refusal::Fault;
@@ -20,7 +19,7 @@ pub enum Walked {
 }
 
 // How a walk ends whose first hop leaves the device at a place by an out adapter and HopID. A walk that is still going after as many hops as there are entries never ends.
-fn onward(
+pub fn onward(
     entries: &[u64],
     adapters: &[u64],
     routes: &[u64],
@@ -81,6 +80,29 @@ fn onward(
     }
 }
 
+// The same. The slices that a call hands on are copied first: here, and not where a walk ends without a hop.
+fn go_on(
+    entries: &[u64],
+    adapters: &[u64],
+    routes: &[u64],
+    marks: &[u64],
+    place: usize,
+    out_adapter: u8,
+    out_hop: u16,
+) -> Walked
+    ensures { λ r. ⌜ Onward (now (entries .entry)) (now (adapters .entry)) (now (routes .entry)) (now (marks .entry)) place «out_adapter» «out_hop» r ⌝ }
+{
+    onward(
+        entries,
+        adapters,
+        routes,
+        marks,
+        place,
+        out_adapter,
+        out_hop,
+    )
+}
+
 // How the walk from an adapter and HopID of the device at a place ends. The first entry is looked for before the loop, so that a walk without one ends soon.
 pub fn tally(
     entries: &[u64],
@@ -100,7 +122,7 @@ pub fn tally(
     else {
         return Walked::Absent;
     };
-    onward(
+    go_on(
         entries,
         adapters,
         routes,

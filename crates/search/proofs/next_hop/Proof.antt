@@ -40,8 +40,14 @@ returns-3 : tie.Need-returns-3
 returns-3 c = let a = c .before .before .before .before .before .before .args in
     hop-over (now (a .entries)) (a .place) (a .adapter) (a .hop) _ (omega arith) (omega arith) (c .before .before .before .seek .ensures) (λ l. c .if3 .taken)
 
-cast-t15 : tie.Need-cast-t15
-cast-t15 c = search needs
+cast-next : tie.Need-cast-next
+cast-next c = search needs
+
+cast-out-adapter : tie.Need-cast-out-adapter
+cast-out-adapter c = search needs
+
+cast-out-hop : tie.Need-cast-out-hop
+cast-out-hop c = search needs
 
 returns-4 : tie.Need-returns-4
 returns-4 c = let a = c .before .before .before .before .before .before .args in
@@ -62,5 +68,7 @@ next-hop-spec =
     mul-w
     shared-slice-read-w
     returns-3
-    cast-t15
+    cast-next
+    cast-out-adapter
+    cast-out-hop
     returns-4)

@@ -16,11 +16,11 @@ enum-told c = search needs
 returns : tie.Need-returns
 returns c = absent _ _ _ _ _ (c .before .before .find-entry .ensures) (c .enum-told .given .1)
 
-onward-requires : tie.Need-onward-requires
-onward-requires c κs = search needs
+go-on-requires : tie.Need-go-on-requires
+go-on-requires c κs = search needs
 
 returns-2 : tie.Need-returns-2
-returns-2 c = let v = c .before .before in walks-on _ _ _ _ _ (v .before .before .find-entry .ensures) (v .out-adapter .given .1) (c .onward .ensures)
+returns-2 c = let v = c .before .before in walks-on _ _ _ _ _ (v .before .before .find-entry .ensures) (v .out-adapter .given .1) (c .go-on .ensures)
 
 pub tally-spec : {M : Type 1} → statement M
 tally-spec =
@@ -30,5 +30,5 @@ tally-spec =
     enum-known-out-adapter
     enum-told
     returns
-    onward-requires
+    go-on-requires
     returns-2)
