@@ -45,7 +45,7 @@ use Rattle.tunnel.specs.declared.Planned.{Planned}
 use Rattle.tunnel.specs.declared.Planned.the-variants as planned
 use Rattle.discovery.specs.Answers.{discoverAt, inRoom, outputBy, tunnelsOutcome, isList}
 use Rattle.discovery.specs.Tables.{Discovered}
-use Rattle.discovery.specs.Work.{Wrote, Walks, PlanPut, tallyOf, tallied, Tallies, RingsPut, Follows, Free, OneAnswered, Answered, dmaBy, tunnelBy, ringsEnd}
+use Rattle.discovery.specs.Work.{Wrote, Walks, PlanPut, tallyOf, tallied, Tallies, RingsPut, Follows, Free, OneAnswered, Answered, ringList, dmaBy, tunnelBy, ringsEnd}
 use Rattle.discovery.specs.declared.TunnelsAnswer.{TunnelsAnswer}
 use Rattle.discovery.specs.declared.TunnelsAnswer.the-variants as answer
 use Rattle.discovery.specs.declared.Tally.{Tally}
@@ -102,6 +102,10 @@ free-words out S w l n = record {
   tail = λ k e. subst (λ j. drop j (S ++ drop w out) ≡ drop j out) (let z : w ≡ k = cc in z) (drop-at S (drop w out) w (n ∙ length-take-le w out l));
   long = length-front out S w n;
 }
+
+-- what is discovered, by another definition
+answered-as : (en ad ro ma : List ℕ) (p : ℕ) (f g : Rows → Outcome (Option (List Tunnel))) (out : List ℕ) (r : TunnelsAnswer) (out′ : List ℕ) → (Sized en ro → f (rowsOf en ad ro ma) ≡ g (rowsOf en ad ro ma)) → Answered en ad ro ma p g out r out′ → Answered en ad ro ma p f out r out′
+answered-as en ad ro ma p f g out r out′ e w = record { follows = λ z t l. subst (λ o. Follows o out r out′) (sym (e z)) (w .follows z t l); free = w .free }
 
 -- ---- one tunnel
 
@@ -191,37 +195,43 @@ module _ (en ad ro ma : List ℕ) (p a : ℕ) (out : List ℕ) where
     free = free-kept out _ refl;
   }
 
-  module _ (m : MaxHop) (hi end : ℕ) (e : m ≡ most.Hop hi) (is : end ≡ ringsEnd hi) (c : Tally) (f : Tallies en ad ro ma p a (end - 1) c) where
-    by-rings : Sized en ro → (o : Outcome (List Tunnel)) → rings (rowsOf en ad ro ma) p a 1 (end - 1) ≡ o → dmaBy (rowsOf en ad ro ma) p a (maxHopOutcome (adapterSite p a) m) ≡ bind o (λ ts. value (some ts))
-    unfolding maxHopOutcome dmaBy bind orNone
-    by-rings z o q =
-        ap (λ y. dmaBy (rowsOf en ad ro ma) p a (maxHopOutcome (adapterSite p a) y)) e
-        ∙ ap (λ y. bind y (λ ts. value (some ts))) (rings-capped en ad ro ma p a hi z ∙ ap (λ y. rings (rowsOf en ad ro ma) p a 1 (y - 1)) (sym is) ∙ q)
+  -- those past 65,535 have no tunnel
+  pub dma-rings : (m : MaxHop) (hi end : ℕ) → m ≡ most.Hop hi → end ≡ ringsEnd hi → (r : TunnelsAnswer) (out′ : List ℕ) → Answered en ad ro ma p (λ x. ringList x p a (end - 1)) out r out′ → Rung m r out′
+  unfolding maxHopOutcome dmaBy bind orNone
+  dma-rings m hi end e is r out′ w = answered-as en ad ro ma p _ _ out r out′
+      (λ z.
+      ap (λ y. dmaBy (rowsOf en ad ro ma) p a (maxHopOutcome (adapterSite p a) y)) e
+      ∙ ap (λ y. bind y (λ ts. value (some ts))) (rings-capped en ad ro ma p a hi z ∙ ap (λ y. rings (rowsOf en ad ro ma) p a 1 (y - 1)) (sym is)))
+      w
 
-    pub dma-refused : (r : Refusal) → c ≡ tally.Refused r → Rung m (answer.Refused r) out
+module _ (en ad ro ma : List ℕ) (p a : ℕ) (out : List ℕ) (k : ℕ) where
+  abbrev Listed : TunnelsAnswer → List ℕ → Type 0
+  Listed r out′ = Answered en ad ro ma p (λ x. ringList x p a k) out r out′
+
+  module _ (c : Tally) (f : Tallies en ad ro ma p a k c) where
+    pub list-refused : (r : Refusal) → c ≡ tally.Refused r → Listed (answer.Refused r) out
     unfolding isList tallied bind
-    dma-refused r d = record {
-      follows = λ z t l. let y = counted-refused (rings (rowsOf en ad ro ma) p a 1 (end - 1)) r (sym (ap tallied d) ∙ f .counts z t l) in follows-refused (dmaBy (rowsOf en ad ro ma) p a (maxHopOutcome (adapterSite p a) m)) out r (y .0) (y .1) (by-rings z (refused (y .0) (y .1)) (y .2)) (y .3);
+    list-refused r d = record {
+      follows = λ z t l. let y = counted-refused (rings (rowsOf en ad ro ma) p a 1 k) r (sym (ap tallied d) ∙ f .counts z t l) in follows-refused (ringList (rowsOf en ad ro ma) p a k) out r (y .0) (y .1) (ap (λ o. bind o (λ ts. value (some ts))) (y .2)) (y .3);
       free = free-kept out (answer.Refused r) refl;
     }
 
     module _ (w : ℕ) (d : c ≡ tally.Words w) where
-      all-rings : Sized en ro → Tabled en ad ro → p < 65536 → (ts : List Tunnel) × (rings (rowsOf en ad ro ma) p a 1 (end - 1) ≡ value ts) × (w ≡ length (tunnelsWords ts))
-      unfolding tallied
-      all-rings z t l = counted-words (rings (rowsOf en ad ro ma) p a 1 (end - 1)) w (sym (ap tallied d) ∙ f .counts z t l)
+      all-rings : Sized en ro → Tabled en ad ro → p < 65536 → (ts : List Tunnel) × (rings (rowsOf en ad ro ma) p a 1 k ≡ value ts) × (w ≡ length (tunnelsWords ts)) × (ringList (rowsOf en ad ro ma) p a k ≡ value (some ts))
+      unfolding tallied bind
+      all-rings z t l = let y = counted-words (rings (rowsOf en ad ro ma) p a 1 k) w (sym (ap tallied d) ∙ f .counts z t l) in (y .0, y .1, y .2, ap (λ o. bind o (λ ts. value (some ts))) (y .1))
 
-      pub dma-short : length out < w → Rung m (answer.Short w) out
-      unfolding isList bind
-      dma-short k = record {
-        follows = λ z t l. let y = all-rings z t l in follows-short (dmaBy (rowsOf en ad ro ma) p a (maxHopOutcome (adapterSite p a) m)) out (y .0) w (by-rings z (value (y .0)) (y .1)) (y .2) k;
+      pub list-short : length out < w → Listed (answer.Short w) out
+      unfolding isList
+      list-short n = record {
+        follows = λ z t l. let y = all-rings z t l in follows-short (ringList (rowsOf en ad ro ma) p a k) out (y .0) w (y .3) (y .2) n;
         free = free-kept out (answer.Short w) refl;
       }
 
-      pub dma-put : w ≤ length out → (S : List ℕ) → length S ≡ length (take w out) → RingsPut en ad ro ma p a (end - 1) (take w out) S → Rung m (answer.Words w) (S ++ drop w out)
-      unfolding bind
-      dma-put k S n v = record {
-        follows = λ z t l. let y = all-rings z t l in follows-words (dmaBy (rowsOf en ad ro ma) p a (maxHopOutcome (adapterSite p a) m)) out (y .0) w (by-rings z (value (y .0)) (y .1)) (y .2) k S (v .words z t l (y .0) (y .1) (length-take-le w out k ∙ y .2));
-        free = free-words out S w k n;
+      pub list-put : w ≤ length out → (S : List ℕ) → length S ≡ length (take w out) → RingsPut en ad ro ma p a k (take w out) S → Listed (answer.Words w) (S ++ drop w out)
+      list-put n S e v = record {
+        follows = λ z t l. let y = all-rings z t l in follows-words (ringList (rowsOf en ad ro ma) p a k) out (y .0) w (y .3) (y .2) n S (v .words z t l (y .0) (y .1) (length-take-le w out n ∙ y .2));
+        free = free-words out S w n e;
       }
 
 -- ---- by the adapter's kind
@@ -302,10 +312,6 @@ module _ (en ad ro ma : List ℕ) (p : ℕ) (f : Facts) (out : List ℕ) (r : Tu
   unfolding discover factsRow by-kind
   discover-as x k e = ap (by-kind x) e
 
-  -- what is discovered, by another definition
-  told-by : (g : Rows → Outcome (Option (List Tunnel))) → ((x : Rows) → discover x p (factsRow p f) ≡ g x) → Answered en ad ro ma p g out r out′ → Told
-  told-by g e a = record { follows = λ z t l. subst (λ o. Follows o out r out′) (sym (e (rowsOf en ad ro ma))) (a .follows z t l); free = a .free }
-
   host-rings : (x : Rows) → f .kind ≡ type.HostInterface → discover x p (factsRow p f) ≡ dmaBy x p (f .number) (maxHopOutcome (adapterSite p (f .number)) (f .«max_hop»))
   unfolding by-kind isEnabled ofKind dma dmaBy factsRow minHop orNone bind
   host-rings x e =
@@ -319,7 +325,7 @@ module _ (en ad ro ma : List ℕ) (p : ℕ) (f : Facts) (out : List ℕ) (r : Tu
 
   pub told-host : (n : ℕ) → n ≡ typeNumber (f .kind) → n ≡ 3 → Answered en ad ro ma p (λ x. dmaBy x p (f .number) (maxHopOutcome (adapterSite p (f .number)) (f .«max_hop»))) out r out′ → Told
   unfolding typeBy
-  told-host n e k a = told-by _ (λ x. host-rings x (type-is (f .kind) n e ∙ ap typeBy k)) a
+  told-host n e k a = answered-as en ad ro ma p _ _ out r out′ (λ z. host-rings (rowsOf en ad ro ma) (type-is (f .kind) n e ∙ ap typeBy k)) a
 
   -- one plan's tunnel
   told-one : (o : Rows → Outcome (Option Tunnel)) (plan : Planned) → ((x : Rows) → discover x p (factsRow p f) ≡ bind (o x) alone) → ((x : Rows) (t : Option Tunnel) → o x ≡ value t → Walks x t) → Plans en ad ro ma p o plan → OneAnswered en ad ro ma plan out r out′ → Told

@@ -1,5 +1,5 @@
 -- Laws of notes: the first of a path that leaves by a ring, and what is said of its path. Assumes nothing.
-use Prim.Native.Nat.{ℕ, suc, _+_, _/_, _%_, _≤_, _<_}
+use Prim.Native.Nat.{ℕ, suc, _+_, _%_, _≤_, _<_}
 use mathlib.Core.Path.{_≡_, refl, sym, ap, _∙_, subst}
 use mathlib.Core.Bool.{Bool, cond}
 use mathlib.Core.List.{List}
@@ -22,7 +22,6 @@ use Rattle.receive.specs.Receive.{at}
 use Rattle.receive.specs.Tables.{Said, receivedOutcome, hopsBy, noteStand, noteRing, saidFrom, walkSaid, byNotes, Foretells, Receives, Searches}
 use Rattle.receive.specs.declared.Received.{Received}
 use Rattle.receive.specs.declared.Received.the-variants as answer
-use Rattle.receive.specs.declared.Searched.{Searched}
 use Rattle.discovery.specs.Work.{Known, Told, NoteFound, NotePath}
 
 -- ---- the first note
@@ -83,18 +82,19 @@ module _ (en ad ro ma : List ℕ) (note p a h : ℕ) (w : Walked) (f : Tallied e
 
 -- ---- what the notes tell
 
-module _ (en ad ro ma notes : List ℕ) (ring : ℕ) (last : Received) (t : Told en ad ro ma notes last) (few : length notes < 64) (i : ℕ) (f : NoteFound notes ring i) where
+module _ (en ad ro ma notes : List ℕ) (ring : ℕ) (last : Received) (t : Told en ad ro ma notes last) (few : length notes < 2048) (i : ℕ) (f : NoteFound notes ring i) where
   pub told-last : length notes ≤ i → Receives en ad ro ma ring last
   told-last l = record { answers = λ y. sym (t .tells few .tells y ring ∙ f .none-there l (rowsOf en ad ro ma) (receivedOutcome ring last)); few = t .few }
 
   pub told-path : i < length notes → (r : Received) → NotePath en ad ro ma ring (getD notes i 0) r → Receives en ad ro ma ring r
   told-path l r n = record { answers = λ y. n .says y ∙ sym (t .tells few .tells y ring ∙ f .here l (rowsOf en ad ro ma) (receivedOutcome ring last)); few = n .few }
 
--- a search's notes
-pub told-known : (en ad ro ma : List ℕ) (ring : ℕ) (s : Searched) → Searches en ad ro ma ring s → (count : ℕ) → Known (s .found) (s .noted) count → length (s .notes) ≡ 64 → Told en ad ro ma (take count (s .notes)) (s .found)
-told-known en ad ro ma ring s f count k long = record {
+-- a search's notes: as many as are known to tell of all rings are fewer than it has room for
+pub told-known : (en ad ro ma : List ℕ) (ring room : ℕ) (found : Received) (noted : ℕ) (notes : List ℕ) → Searches room en ad ro ma ring found noted notes → (count : ℕ) → Known found noted count → count ≤ length notes → (count < 2048 → count < room) → Told en ad ro ma (take count notes) found
+told-known en ad ro ma ring room found noted notes f count k fits less = record {
   tells = λ l.
-      let e = k .known (omega (arith, l, length-take-le count (s .notes) (omega (arith, k .within, long)))) in
-      subst (λ (n : ℕ). Foretells en ad ro ma (take n (s .notes)) (s .found)) (sym (e .0)) (f .notes (e .1) (omega (arith, l, e .0, length-take-le count (s .notes) (omega (arith, k .within, long)))));
+      let m : count < 2048 = omega (arith, l, length-take-le count notes fits) in
+      let e = k .known m in
+      subst (λ (n : ℕ). Foretells en ad ro ma (take n notes) found) (sym (e .0)) (f .tells (e .1) (omega (arith, less m, e .0)));
   few = f .comes .few;
 }

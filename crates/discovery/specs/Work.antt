@@ -112,14 +112,14 @@ pub record Spared (w owner : ℕ) (old new : List ℕ) : Type 0 where
 pub record Resting (en : List ℕ) (p a : ℕ) (idle : List ℕ) : Type 0 where
   pub rests : (j : ℕ) → getD idle (markOf j) 0 ≡ 1 → Unasked en p a j
 
--- how many notes of a search tell of all rings; 64 for none
+-- how many notes of a search tell of all rings; 2,048 for none
 pub record Known (found : Received) (noted r : ℕ) : Type 0 where
-  pub within : r ≤ 64
-  pub known : r < 64 → (r ≡ noted) × (isPath found ≡ false)
+  pub within : r ≤ 2048
+  pub known : r < 2048 → (r ≡ noted) × (isPath found ≡ false)
 
--- fewer than 64 notes, with what the search came to, tell of all rings
+-- fewer than 2,048 notes, with what the search came to, tell of all rings
 pub record Told (en ad ro ma notes : List ℕ) (last : Received) : Type 0 where
-  pub tells : length notes < 64 → Foretells en ad ro ma notes last
+  pub tells : length notes < 2048 → Foretells en ad ro ma notes last
   pub few : hopsBy last ≤ length en
 
 -- the first note of a path that leaves by a ring, or there is none
@@ -174,9 +174,13 @@ pub record Answered (en ad ro ma : List ℕ) (p : ℕ) (f : Rows → Outcome (Op
   pub follows : Sized en ro → Tabled en ad ro → p < 65536 → Follows (f (rowsOf en ad ro ma)) out r out′
   pub free : Free out r out′
 
+-- the tunnels of k rings from 1 on, as a list that is there
+abbrev pub ringList : Rows → ℕ → ℕ → ℕ → Outcome (Option (List Tunnel))
+ringList x p a k = bind (rings x p a 1 k) (λ ts. value (some ts))
+
 -- the rings of a host interface, by its largest HopID
 unfoldable pub dmaBy : Rows → ℕ → ℕ → Outcome (Option ℕ) → Outcome (Option (List Tunnel))
-dmaBy x p a o = bind o (λ m. orNone m (λ hi. bind (rings x p a 1 hi) (λ ts. value (some ts))))
+dmaBy x p a o = bind o (λ m. orNone m (λ hi. ringList x p a hi))
 
 -- the tunnel of an adapter that has one at most, by the number of its kind
 unfoldable pub tunnelBy : Rows → ℕ → ℕ → ℕ → Outcome (Option Tunnel)

@@ -10,7 +10,7 @@ ghost use Rattle.receive.specs.Tables.{Receives};
 ghost use Rattle.tunnel.specs.Tunnels.{discover, oneDma};
 ghost use Rattle.tunnel.specs.Plans.{Plans, fromBy, pathsBy};
 ghost use Rattle.discovery.specs.Tables.{Discovered};
-ghost use Rattle.discovery.specs.Work.{PathPut, PlanPut, Marked, Unmarked, Spared, Resting, Idle, Quiet, markOf, Known, Told, NoteFound, NotePath, among, outHops, Drafted, Tallies, RingPut, RingsPut, OneAnswered, Answered, dmaBy, tunnelBy, tallyOf, ringsEnd};
+ghost use Rattle.discovery.specs.Work.{PathPut, PlanPut, Marked, Unmarked, Spared, Resting, Idle, Quiet, markOf, Known, Told, NoteFound, NotePath, among, outHops, Drafted, Tallies, RingPut, RingsPut, OneAnswered, Answered, ringList, dmaBy, tunnelBy, tallyOf, ringsEnd};
 use adapter::Facts;
 use adapter::MaxHop;
 use load::Refusal;
@@ -42,6 +42,9 @@ pub enum Tally {
 const MOST_ENTRIES: usize = 4096;
 
 const MOST_DEVICES: usize = 4096;
+
+// As many notes of a search tell nothing of other rings. No search notes more.
+const UNTOLD: usize = 2048;
 
 // The head word of a tunnel.
 fn tunnel_word(kind: TunnelType, closed: bool, paths: u8) -> u32
@@ -246,12 +249,12 @@ fn at_rest(entries: &[u64], place: usize, adapter: u8, found: Received) -> [u8; 
     idle
 }
 
-// How many notes of a search tell of all rings; 64 if they don't.
+// How many notes of a search tell of all rings; `UNTOLD` if they don't.
 fn known_notes(found: Received, noted: usize) -> usize
     ensures { λ r. ⌜ Known found noted r ⌝ }
 {
-    if 63 < noted {
-        return 64;
+    if UNTOLD <= noted {
+        return UNTOLD;
     }
     match found {
         Received::Nothing => noted,
@@ -264,7 +267,7 @@ fn known_notes(found: Received, noted: usize) -> usize
             hops: _,
             out_place: _,
             out_adapter: _,
-        } => 64,
+        } => UNTOLD,
     }
 }
 
@@ -315,7 +318,7 @@ fn noted_path(
     }
 }
 
-// The receive path of a ring: by notes, where there are fewer than 64, with `last` for the rings that have none; else by a search.
+// The receive path of a ring: by notes, where there are fewer than `UNTOLD`, with `last` for the rings that have none; else by a search.
 fn received_by(
     entries: &[u64],
     adapters: &[u64],
@@ -328,7 +331,7 @@ fn received_by(
     requires { ⌜ Told (now entries) (now adapters) (now routes) (now marks) (now notes) last ⌝ }
     ensures { λ r. ⌜ Receives (now (entries .entry)) (now (adapters .entry)) (now (routes .entry)) (now (marks .entry)) ring r ⌝ }
 {
-    if 64 <= notes.len() {
+    if UNTOLD <= notes.len() {
         let searched = receive::receive(entries, adapters, routes, marks, ring);
         let found = searched.found;
         return found;
@@ -600,6 +603,151 @@ fn put_one(
     }
 }
 
+// The tunnels of rings 1 to `end`, which is left out, by what the search for ring 65,535 noted and came to.
+fn put_noted(
+    entries: &[u64],
+    adapters: &[u64],
+    routes: &[u64],
+    marks: &[u64],
+    place: usize,
+    adapter: u8,
+    end: u32,
+    notes: &[u64],
+    found: Received,
+    output: &mut [u32],
+) -> TunnelsAnswer
+    requires { ⌜ (1 ≤ end) × (end ≤ 65536) × Told (now entries) (now adapters) (now routes) (now marks) (now notes) found × Receives (now entries) (now adapters) (now routes) (now marks) 65535 found ⌝ }
+    ensures { λ r. ⌜ Answered (now (entries .entry)) (now (adapters .entry)) (now (routes .entry)) (now (marks .entry)) place (λ x. ringList x place adapter (end - 1)) (now (output .entry)) r (now (output .exit)) ⌝ }
+{
+    let mut idle = at_rest(entries, place, adapter, found);
+    let mut draft = [0u32; 256]; // room for the words of 36 rings with two paths of one hop each
+    match tally_rings(
+        entries,
+        adapters,
+        routes,
+        marks,
+        place,
+        adapter,
+        end,
+        notes,
+        found,
+        &mut idle,
+        &mut draft,
+    ) {
+        Tally::Refused(refusal) => TunnelsAnswer::Refused(refusal),
+        Tally::Words(need) => {
+            if output.len() < need {
+                return TunnelsAnswer::Short(need);
+            }
+            put_tallied(
+                entries,
+                adapters,
+                routes,
+                marks,
+                place,
+                adapter,
+                end,
+                notes,
+                found,
+                &idle,
+                &draft,
+                &mut output[..need],
+            );
+            TunnelsAnswer::Words(need)
+        }
+    }
+}
+
+// The same by a search with room for many notes: 16 KiB, which most surveys needn't pay for.
+fn put_far(
+    entries: &[u64],
+    adapters: &[u64],
+    routes: &[u64],
+    marks: &[u64],
+    place: usize,
+    adapter: u8,
+    end: u32,
+    output: &mut [u32],
+) -> TunnelsAnswer
+    requires { ⌜ (1 ≤ end) × (end ≤ 65536) ⌝ }
+    ensures { λ r. ⌜ Answered (now (entries .entry)) (now (adapters .entry)) (now (routes .entry)) (now (marks .entry)) place (λ x. ringList x place adapter (end - 1)) (now (output .entry)) r (now (output .exit)) ⌝ }
+{
+    let searched = receive::receive_far(entries, adapters, routes, marks, 65535);
+    let found = searched.found;
+    let notes = searched.notes;
+    let count = known_notes(found, searched.noted);
+    put_noted(
+        entries,
+        adapters,
+        routes,
+        marks,
+        place,
+        adapter,
+        end,
+        &notes[..count],
+        found,
+        output,
+    )
+}
+
+// The same by a search with room for few notes, if they tell of all rings; if not, or where `far` says so, by one with room for many. It calls itself before it calls `put_far`: the compiler puts no large room into the frame of a function that calls itself. Otherwise the room of `put_far` would be in the frame of every answer.
+fn put_searched(
+    entries: &[u64],
+    adapters: &[u64],
+    routes: &[u64],
+    marks: &[u64],
+    place: usize,
+    adapter: u8,
+    end: u32,
+    far: bool,
+    output: &mut [u32],
+) -> TunnelsAnswer
+    requires { ⌜ (1 ≤ end) × (end ≤ 65536) ⌝ }
+    ensures { λ r. ⌜ Answered (now (entries .entry)) (now (adapters .entry)) (now (routes .entry)) (now (marks .entry)) place (λ x. ringList x place adapter (end - 1)) (now (output .entry)) r (now (output .exit)) ⌝ }
+{
+    if far {
+        return put_far(
+            entries,
+            adapters,
+            routes,
+            marks,
+            place,
+            adapter,
+            end,
+            output,
+        );
+    }
+    let searched = receive::receive(entries, adapters, routes, marks, 65535);
+    let found = searched.found;
+    let notes = searched.notes;
+    let count = known_notes(found, searched.noted);
+    if 63 < count {
+        return put_searched(
+            entries,
+            adapters,
+            routes,
+            marks,
+            place,
+            adapter,
+            end,
+            true,
+            output,
+        );
+    }
+    put_noted(
+        entries,
+        adapters,
+        routes,
+        marks,
+        place,
+        adapter,
+        end,
+        &notes[..count],
+        found,
+        output,
+    )
+}
+
 // The tunnels of the rings of a host interface.
 fn put_dma(
     entries: &[u64],
@@ -621,13 +769,7 @@ fn put_dma(
         }))),
         MaxHop::Hop(largest) => {
             let end = rings_end(largest);
-            let searched = receive::receive(entries, adapters, routes, marks, 65535);
-            let found = searched.found;
-            let notes = searched.notes;
-            let count = known_notes(found, searched.noted);
-            let mut idle = at_rest(entries, place, adapter, found);
-            let mut draft = [0u32; 512]; // room for the words of 73 rings with two paths of one hop each
-            match tally_rings(
+            put_searched(
                 entries,
                 adapters,
                 routes,
@@ -635,33 +777,9 @@ fn put_dma(
                 place,
                 adapter,
                 end,
-                &notes[..count],
-                found,
-                &mut idle,
-                &mut draft,
-            ) {
-                Tally::Refused(refusal) => TunnelsAnswer::Refused(refusal),
-                Tally::Words(need) => {
-                    if output.len() < need {
-                        return TunnelsAnswer::Short(need);
-                    }
-                    put_tallied(
-                        entries,
-                        adapters,
-                        routes,
-                        marks,
-                        place,
-                        adapter,
-                        end,
-                        &notes[..count],
-                        found,
-                        &idle,
-                        &draft,
-                        &mut output[..need],
-                    );
-                    TunnelsAnswer::Words(need)
-                }
-            }
+                false,
+                output,
+            )
         }
     }
 }

@@ -21,8 +21,8 @@ use Rattle.fabric.specs.Tables.{rowsWith, InOrder}
 use Rattle.walk.specs.Tables.{rowsOf, Tabled}
 use Rattle.walk.specs.Walking.{Stand}
 use Rattle.receive.specs.Receive.{at, Lane, laneOf, Receive, Receive.nothing, amongHops, atLane, orNext, amongDevices, receive}
-use Rattle.receive.specs.Tables.{Said, saidOf, receivedOutcome, hopsBy, noteStand, noteRing, walkSaid, byNotes, Receives}
-use Rattle.receive.specs.Work.{laneOutcome, LaneIs, laneBy, laneAt, said, upTo, Stepped, endHops, Looked, PutNote, Sights}
+use Rattle.receive.specs.Tables.{Said, saidOf, receivedOutcome, hopsBy, noteStand, noteRing, walkSaid, byNotes, Searches}
+use Rattle.receive.specs.Work.{laneOutcome, LaneIs, laneBy, laneAt, said, upTo, Stepped, endHops, Looked, PutNote}
 use Rattle.receive.specs.declared.LaneFound.{LaneFound}
 use Rattle.receive.specs.declared.LaneFound.the-variants as found
 use Rattle.receive.specs.declared.Received.{Received}
@@ -158,21 +158,25 @@ pub record Among (en ad ro ma : List ℕ) (ring i q n h hi : ℕ) (r : Received)
 module _ (en ad ro ma : List ℕ) (ring : ℕ) where
   -- what is answered is the rest of the search for each ring
   ends : (a : Received) (ws : List ℕ) (noted : ℕ) (notes : List ℕ) → Written ring ws noted notes → hopsBy a ≤ length en → (Tabled en ad ro → (v : ℕ) → said (receive (rowsOf en ad ro ma) v) ≡ byNotes (rowsOf en ad ro ma) v ws (receivedOutcome v a))
-      → Sights en ad ro ma ring (record { found = a; noted = noted }) notes
+      → Searches (length notes) en ad ro ma ring a noted notes
   ends a ws noted notes w few whole = record {
     comes = record { answers = λ t. sym (whole t ring ∙ notes-none (rowsOf en ad ro ma) ring ws (receivedOutcome ring a) (w .others)); few = few };
     within = w .within;
     tells = λ p l. record { tells = λ t v. whole t v ∙ ap (λ (z : List ℕ). byNotes (rowsOf en ad ro ma) v z (receivedOutcome v a)) (sym (w .kept l)) };
   }
 
+  -- the room is the list's length
+  pub in-room : {room noted : ℕ} {a : Received} {notes : List ℕ} → Searches (length notes) en ad ro ma ring a noted notes → length notes ≡ room → Searches room en ad ro ma ring a noted notes
+  in-room {noted = noted} {a = a} {notes = notes} s e = subst (λ (n : ℕ). Searches n en ad ro ma ring a noted notes) e s
+
   pub seek-start : (notes : List ℕ) → Seeking en ad ro ma ring 0 answer.Nothing 0 notes
   unfolding receive byNotes Others
   seek-start notes = record { empty = refl; ws = []; written = record { others = omega arith; kept = λ l. refl; within = omega arith }; whole = λ t v. refl }
 
   module _ {i : ℕ} {r : Received} {noted : ℕ} {notes : List ℕ} (s : Seeking en ad ro ma ring i r noted notes) where
-    pub seek-end : length ro ≤ i → Sights en ad ro ma ring (record { found = r; noted = noted }) notes
+    pub seek-end : length ro ≤ i → Searches (length notes) en ad ro ma ring r noted notes
     unfolding receivedOutcome hopsBy bind saidOf rowsOf rowsWith
-    seek-end l = subst (λ a. Sights en ad ro ma ring (record { found = a; noted = noted }) notes) (sym (s .empty)) (ends answer.Nothing (s .ws) noted notes (s .written) (omega arith) (λ t v.
+    seek-end l = subst (λ a. Searches (length notes) en ad ro ma ring a noted notes) (sym (s .empty)) (ends answer.Nothing (s .ws) noted notes (s .written) (omega arith) (λ t v.
         s .whole t v ∙ ap (λ (o : Outcome Receive). byNotes (rowsOf en ad ro ma) v (s .ws) (said o)) (left-past (rowsOf en ad ro ma) v i (device-past-routes 0 ro ma i l))))
 
     -- by the lane of the device at place i
@@ -187,7 +191,7 @@ module _ (en ad ro ma : List ℕ) (ring : ℕ) where
           ∙ ap (λ (o : Outcome Receive). byNotes (rowsOf en ad ro ma) v (s .ws) (said o)) (left-step (rowsOf en ad ro ma) v i)
           ∙ ap (λ (o : Outcome Lane). byNotes (rowsOf en ad ro ma) v (s .ws) (said (bind (bind o (atLane (rowsOf en ad ro ma) v)) (orNext (left (rowsOf en ad ro ma) v (i + 1)))))) (sym (lane-is f e t))
 
-      pub seek-refused : (a : Refusal) → u ≡ found.Refused a → Sights en ad ro ma ring (record { found = answer.Refused a; noted = noted }) notes
+      pub seek-refused : (a : Refusal) → u ≡ found.Refused a → Searches (length notes) en ad ro ma ring (answer.Refused a) noted notes
       unfolding receivedOutcome hopsBy laneOutcome
       seek-refused a e = ends (answer.Refused a) (s .ws) noted notes (s .written) (omega arith) (λ t v.
           seek-lane (found.Refused a) e t v
@@ -195,7 +199,7 @@ module _ (en ad ro ma : List ℕ) (ring : ℕ) where
           ∙ ap (λ (o : Outcome Receive). byNotes (rowsOf en ad ro ma) v (s .ws) (said o)) (refused-bind a (orNext (left (rowsOf en ad ro ma) v (i + 1))))
           ∙ ap (λ (o : Outcome Said). byNotes (rowsOf en ad ro ma) v (s .ws) o) (refused-bind a (λ y. value (saidOf y))))
 
-      pub seek-lost : u ≡ found.Dropped → Sights en ad ro ma ring (record { found = answer.Lost; noted = noted }) notes
+      pub seek-lost : u ≡ found.Dropped → Searches (length notes) en ad ro ma ring answer.Lost noted notes
       unfolding receivedOutcome hopsBy laneOutcome bind atLane orNext saidOf
       seek-lost e = ends answer.Lost (s .ws) noted notes (s .written) (omega arith) (λ t v. seek-lane found.Dropped e t v)
 
@@ -270,7 +274,7 @@ module _ (en ad ro ma : List ℕ) (ring : ℕ) where
               ∙ ap (λ (z : ℕ). cond (eqb z v) (walkSaid (rowsOf en ad ro ma) v (at q n j)) (said (bind (upTo (rowsOf en ad ro ma) v q n (j + 1) hi) (orNext (left (rowsOf en ad ro ma) v (i + 1)))))) (sym leaves-by)
               ∙ ap (λ (z : Stand). cond (eqb (noteRing w) v) (walkSaid (rowsOf en ad ro ma) v z) (said (bind (upTo (rowsOf en ad ro ma) v q n (j + 1) hi) (orNext (left (rowsOf en ad ro ma) v (i + 1)))))) (sym p)
 
-      pub among-fits : (a : Received) → u ≡ step.Fits a → Sights en ad ro ma ring (record { found = a; noted = noted }) notes
+      pub among-fits : (a : Received) → u ≡ step.Fits a → Searches (length notes) en ad ro ma ring a noted notes
       unfolding Stepped endHops
       among-fits a e = record {
         comes = record { answers = λ t. look (step.Fits a) e t _ ∙ sym (s .whole t ring ∙ notes-none (rowsOf en ad ro ma) ring (s .ws) _ (s .written .others)); few = omega (arith, k .few, ap endHops e) };
@@ -278,6 +282,6 @@ module _ (en ad ro ma : List ℕ) (ring : ℕ) where
         tells = λ p l. absurd (true≢false (sym (k .fitting a e) ∙ p));
       }
 
-      pub among-refused : (a : Refusal) → u ≡ step.Refused a → Sights en ad ro ma ring (record { found = answer.Refused a; noted = noted }) notes
+      pub among-refused : (a : Refusal) → u ≡ step.Refused a → Searches (length notes) en ad ro ma ring (answer.Refused a) noted notes
       unfolding Stepped receivedOutcome hopsBy
       among-refused a e = ends (answer.Refused a) (s .ws) noted notes (s .written) (omega arith) (λ t v. s .whole t v ∙ ap (λ (z : Outcome Said). byNotes (rowsOf en ad ro ma) v (s .ws) z) (sym (look (step.Refused a) e t v _)))

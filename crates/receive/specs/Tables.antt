@@ -15,7 +15,6 @@ use Rattle.walk.specs.Tables.{rowsOf, Tabled, Leaving, lastOf, leavingBy, leave
 use Rattle.receive.specs.Receive.{at, Receive, Receive.received, Receive.nothing, Receive.lost, receive}
 use Rattle.receive.specs.declared.Received.{Received}
 use Rattle.receive.specs.declared.Received.the-variants as answer
-use Rattle.receive.specs.declared.Searched.{Searched}
 
 -- what is said of a search: of a path its start, and by what it leaves
 pub data Said : Type 0 where
@@ -81,8 +80,8 @@ pub record Receives (en ad ro ma : List ℕ) (ring : ℕ) (r : Received) : Type 
   pub answers : Tabled en ad ro → receivedOutcome ring r ≡ bind (receive (rowsOf en ad ro ma) ring) (λ v. value (saidOf v))
   pub few : hopsBy r ≤ length en
 
--- The same with notes for the search of other rings. Document 01 has none. Fewer than 64, where no path is found, tell with what is found what the search for any ring comes to. The rest is free, and only time hangs on it: how many there are, up to 64, which tell nothing, as any number does where a path is found; the notes themselves then; their order under different rings; a second note under a ring; a note that says no more than what is found; and the words after the notes.
-pub record Searches (en ad ro ma : List ℕ) (ring : ℕ) (s : Searched) : Type 0 where
-  pub comes : Receives en ad ro ma ring (s .found)
-  pub within : s .noted ≤ 64
-  pub notes : isPath (s .found) ≡ false → s .noted < 64 → Foretells en ad ro ma (take (s .noted) (s .notes)) (s .found)
+-- The same with notes for the search of other rings, in a list that has room for some number of them. Document 01 has none. Fewer than the room, where no path is found, tell with what is found what the search for any ring comes to. The rest is free, and only time hangs on it: how many there are, up to the room, which tell nothing, as any number does where a path is found; the notes themselves then; their order under different rings; a second note under a ring; a note that says no more than what is found; and the words after the notes.
+pub record Searches (room : ℕ) (en ad ro ma : List ℕ) (ring : ℕ) (found : Received) (noted : ℕ) (notes : List ℕ) : Type 0 where
+  pub comes : Receives en ad ro ma ring found
+  pub within : noted ≤ room
+  pub tells : isPath found ≡ false → noted < room → Foretells en ad ro ma (take noted notes) found

@@ -1,24 +1,23 @@
 -- For the contracts of private functions only. No promise to a caller rests on these. Assumes nothing.
 use Prim.Native.Nat.{ℕ, _+_, _-_, _≤_, _<_}
 use mathlib.Core.Path.{_≡_}
-use mathlib.Core.Bool.{true, false, cond}
+use mathlib.Core.Bool.{true, cond}
 use mathlib.Core.List.{List}
 use mathlib.Core.Option.{Option, none as absent, some}
 use lib.Dec.{eqb}
-use lib.ListN.{length, take, set}
+use lib.ListN.{length, set}
 use Rattle.refusal.specs.Outcome.{Outcome, value, bind}
 use Rattle.tables.specs.Rows.{EntryRow, DeviceRow, Rows, deviceIn}
 use Rattle.load.specs.Answers.{refusedBy}
 use Rattle.fabric.specs.Tables.{rowsWith, InOrder}
 use Rattle.walk.specs.Tables.{rowsOf, Tabled}
 use Rattle.receive.specs.Receive.{at, Lane, Lane.lane, Lane.passed, Lane.dropped, laneOf, Receive, Receive.nothing, amongHops, orNext}
-use Rattle.receive.specs.Tables.{Said, saidOf, receivedOutcome, hopsBy, walkSaid, isPath, Foretells, Receives}
+use Rattle.receive.specs.Tables.{Said, saidOf, receivedOutcome, hopsBy, walkSaid, isPath}
 use Rattle.receive.specs.declared.LaneFound.{LaneFound}
 use Rattle.receive.specs.declared.LaneFound.the-variants as found
 use Rattle.receive.specs.declared.Received.{Received}
 use Rattle.receive.specs.declared.Step.{Step}
 use Rattle.receive.specs.declared.Step.the-variants as step
-use Rattle.receive.specs.declared.Sought.{Sought}
 
 unfoldable pub laneOutcome : LaneFound → Outcome Lane
 laneOutcome (found.At q n lo hi) = value (lane q n lo hi)
@@ -72,9 +71,3 @@ pub record Looked (en ad ro ma : List ℕ) (ring q n h hi : ℕ) (r : Step) : Ty
 pub record PutNote (word noted : ℕ) (old : List ℕ) (r : ℕ) (new : List ℕ) : Type 0 where
   pub put : noted < length old → (r ≡ noted + 1) × (new ≡ set old noted word)
   pub full : length old ≤ noted → (r ≡ noted) × (new ≡ old)
-
--- what is noted of a search, in a list of any length
-pub record Sights (en ad ro ma : List ℕ) (ring : ℕ) (s : Sought) (notes : List ℕ) : Type 0 where
-  pub comes : Receives en ad ro ma ring (s .found)
-  pub within : s .noted ≤ length notes
-  pub tells : isPath (s .found) ≡ false → s .noted < length notes → Foretells en ad ro ma (take (s .noted) notes) (s .found)

@@ -1,12 +1,13 @@
 // The receive path of a ring (module 7, `discover_one_dma`), sought on the tables that a survey is loaded to.
 ghost use Prim.Native.Nat.{ℕ, _+_, _*_, _<_};
 ghost use mathlib.Core.Path.{_≡_};
+ghost use lib.ListN.{length};
 ghost use Rattle.adapter.specs.Adapter.{factsRow};
 ghost use Rattle.tables.specs.Rows.{deviceIn};
 ghost use Rattle.tables.specs.Found.{deviceRow};
 ghost use Rattle.receive.specs.Receive.{hopsOf, underRouter, taken};
 ghost use Rattle.receive.specs.Tables.{noteRing, Searches};
-ghost use Rattle.receive.specs.Work.{laneOutcome, LaneIs, laneAt, Looked, PutNote, Sights};
+ghost use Rattle.receive.specs.Work.{laneOutcome, LaneIs, laneAt, Looked, PutNote};
 use adapter::Facts;
 use adapter::HopFound;
 use adapter::MaxHop;
@@ -53,6 +54,13 @@ pub struct Searched {
     pub found: Received,
     pub noted: usize,
     pub notes: [u64; 64],
+}
+
+// The same with room for 2,048 notes; 2,048 tell nothing.
+pub struct SearchedFar {
+    pub found: Received,
+    pub noted: usize,
+    pub notes: [u64; 2048],
 }
 
 // The same without the notes themselves.
@@ -217,7 +225,7 @@ fn seek_path(
     ring: u16,
     notes: &mut [u64],
 ) -> Sought
-    ensures { λ r. ⌜ Sights (now (entries .entry)) (now (adapters .entry)) (now (routes .entry)) (now (marks .entry)) ring r (now (notes .exit)) ⌝ }
+    ensures { λ r. ⌜ Searches (length (now (notes .exit))) (now (entries .entry)) (now (adapters .entry)) (now (routes .entry)) (now (marks .entry)) ring (r .found) (r .noted) (now (notes .exit)) ⌝ }
 {
     let mut noted: usize = 0;
     let mut found = Received::Nothing;
@@ -284,12 +292,32 @@ pub fn receive(
     marks: &[u64],
     ring: u16,
 ) -> Searched
-    ensures { λ r. ⌜ Searches (now (entries .entry)) (now (adapters .entry)) (now (routes .entry)) (now (marks .entry)) ring r ⌝ }
+    ensures { λ r. ⌜ Searches 64 (now (entries .entry)) (now (adapters .entry)) (now (routes .entry)) (now (marks .entry)) ring (r .found) (r .noted) (r .notes) ⌝ }
 {
     let mut notes = [0u64; 64];
     let sought = seek_path(entries, adapters, routes, marks, ring, &mut notes);
     let found = sought.found;
     Searched {
+        found,
+        noted: sought.noted,
+        notes,
+    }
+}
+
+// The same with room for more notes. They are 16 KiB, which a search that passes few paths needn't pay for.
+pub fn receive_far(
+    entries: &[u64],
+    adapters: &[u64],
+    routes: &[u64],
+    marks: &[u64],
+    ring: u16,
+) -> SearchedFar
+    ensures { λ r. ⌜ Searches 2048 (now (entries .entry)) (now (adapters .entry)) (now (routes .entry)) (now (marks .entry)) ring (r .found) (r .noted) (r .notes) ⌝ }
+{
+    let mut notes = [0u64; 2048];
+    let sought = seek_path(entries, adapters, routes, marks, ring, &mut notes);
+    let found = sought.found;
+    SearchedFar {
         found,
         noted: sought.noted,
         notes,

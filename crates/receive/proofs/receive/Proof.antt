@@ -1,6 +1,6 @@
 -- `receive::receive` meets its contract.
-use native.Mathlib.Omega.{arith}
 use borrow.Author.Needs.{needs}
+use Rattle.receive.proofs.Search.{in-room}
 use Rattle.receive.proofs.receive.Statement.{statement}
 use Rattle.receive.proofs.receive.Tie as tie
 
@@ -11,7 +11,7 @@ seek-path-requires : tie.Need-seek-path-requires
 seek-path-requires c κs = search needs
 
 returns : tie.Need-returns
-returns c = let s = c .before .seek-path in record { comes = s .ensures .comes; within = omega (arith, s .ensures .within, s .kept .1 .1 .1 .1 .1 .0); notes = λ p l. s .ensures .tells p (omega (arith, l, s .kept .1 .1 .1 .1 .1 .0)) }
+returns c = let s = c .before .seek-path in in-room _ _ _ _ _ (s .ensures) (s .kept .1 .1 .1 .1 .1 .0)
 
 pub receive-spec : {M : Type 1} → statement M
 receive-spec = tie.close (tie.spec slice-aggregate-seek-path seek-path-requires returns)
