@@ -3,7 +3,7 @@ ghost use Prim.Native.Nat.{_≤_, _<_};
 ghost use lib.ListN.{length, getD};
 ghost use Rattle.tables.specs.Found.{Boundary};
 
-// Where the words that are not below a bound are known to begin no later: in most surveys the host's entries and adapters stand first, and walks start there, so the front is looked at first.
+// A place at or before which the words that are not below a bound begin: the 16th word, where it isn't below, else the end. In most surveys the host's entries and adapters stand first, and walks start there.
 fn end_of(table: &[u64], bound: u64) -> usize
     ensures { λ r. ⌜ (r ≤ length (now (table .entry))) × (r < length (now (table .entry)) → bound ≤ getD (now (table .entry)) r 0) ⌝ }
 {

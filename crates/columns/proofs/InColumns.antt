@@ -29,7 +29,7 @@ use Rattle.columns.specs.declared.Columns.the-variants as columns
 use Rattle.columns.specs.declared.Quick.{Quick}
 use Rattle.columns.specs.declared.Quick.the-variants.{Found}
 use Rattle.columns.specs.Work.{packed, Digits, Spells, Parted, Prefix, Run, Ends, FrontAt, FrontsAt, ColumnsAt, QuickAt}
-use Rattle.columns.proofs.Packed.{digits-parted}
+use Rattle.columns.proofs.Packed.{digit-first, digits-parted}
 
 -- no separator is in it
 unfoldable pub solid : List ℕ → Bool
@@ -174,12 +174,8 @@ module _ (s : List ℕ) where
 
 -- a word of `0x` and digits
 not-plus : (b : ℕ) (w : List ℕ) → allDigits 16 (b ∷ w) ≡ true → afterPlus (b ∷ w) ≡ b ∷ w
-unfolding afterPlus allDigits
-not-plus b w e = step (ltb (digitOf b) 16) refl e
-  where
-    step : (t : Bool) → ltb (digitOf b) 16 ≡ t → t && allDigits 16 w ≡ true → cond (eqb b 43) w (b ∷ w) ≡ b ∷ w
-    step true l z = ap (λ t. cond t w (b ∷ w)) (ne-eqb b 43 (λ q. omega (arith, q, digit-above b (ltb-true (digitOf b) 16 l))))
-    step false l z = absurd (false≢true z)
+unfolding afterPlus
+not-plus b w e = ap (λ t. cond t w (b ∷ w)) (ne-eqb b 43 (λ q. omega (arith, q, digit-above b (digit-first b w e .0))))
 
 number-value : (max v b : ℕ) (w : List ℕ) → Digits (b ∷ w) v → v ≤ max → numberOf 16 max (b ∷ w) ≡ Value v
 unfolding numberOf

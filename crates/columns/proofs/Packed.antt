@@ -1,7 +1,7 @@
 -- Laws on eight numbers in one, a byte each, and on the digits that eight bytes are. Assumes nothing.
 use Prim.Native.Nat.{ℕ, _+_, _*_, _/_, _%_, _<_, _≤_}
 use native.Mathlib.Omega.{arith}
-use native.Mathlib.Nat.{div-add-mod', mod-lt, le-of-lt}
+use native.Mathlib.Nat.{div-add-mod', mod-lt}
 use native.Mathlib.Decide.{decLt}
 use mathlib.Core.Path.{_≡_, refl, sym, ap, subst, _∙_}
 use mathlib.Core.Bool.{Bool, true, false, _&&_, false≢true}
@@ -10,7 +10,7 @@ use lib.Bits.{bitAnd, and-block, and-le-r}
 use lib.Dec.{ltb, lit<}
 use borrow.Author.Tests.{lt-ltb, le-ltb, le-leb, lt-leb, ltb-true}
 use Rattle.util.specs.Number.{digitOf, valueOf, allDigits}
-use Rattle.columns.specs.Work.{noDigits, packed, written, Lanes, Joined, Digits, Spells}
+use Rattle.columns.specs.Work.{packed, written, Lanes, Joined, Digits, Spells}
 
 -- a mask of one byte after another takes each byte apart
 record Lane (m M t : ℕ) : Type 0 where
@@ -133,9 +133,6 @@ module _ (x l : ℕ) (X : Lanes 15 x) (L : Lanes 1 l) where
         (digits-eight (digit-is _ _ _ _ (m .0) (n .0) (k .0) (t .0) (u .0)) (digit-is _ _ _ _ (m .1) (n .1) (k .1) (t .1) (u .1)) (digit-is _ _ _ _ (m .2) (n .2) (k .2) (t .2) (u .2)) (digit-is _ _ _ _ (m .3) (n .3) (k .3) (t .3) (u .3)) (digit-is _ _ _ _ (m .4) (n .4) (k .4) (t .4) (u .4)) (digit-is _ _ _ _ (m .5) (n .5) (k .5) (t .5) (u .5)) (digit-is _ _ _ _ (m .6) (n .6) (k .6) (t .6) (u .6)) (digit-is _ _ _ _ (m .7) (n .7) (k .7) (t .7) (u .7)));
   }
 
-joined-small : (x r : ℕ) → Lanes 15 x → Joined x r → r < noDigits
-joined-small x r l j = omega (arith, j .joins l, l .most)
-
 -- what `hex` takes of eight bytes: 1 for each letter, and a guess at each digit
 abbrev letters : ℕ → ℕ
 letters w = bitAnd (w / 64) 0x0101010101010101
@@ -162,8 +159,8 @@ module _ (w : ℕ) where
   pub rests-most : bitAnd (guesses w + 0x0606060606060606) 0x0f0f0f0f0f0f0f0f ≤ 0x0f0f0f0f0f0f0f0f
   rests-most = and-le-r (guesses w + 0x0606060606060606) 0x0f0f0f0f0f0f0f0f
 
-  pub hex-is : (r : ℕ) → guesses w + 0x3030303030303030 + 39 * letters w ≡ w → bitAnd (guesses w + 0x0606060606060606) 0x0f0f0f0f0f0f0f0f + 16 * letters w ≡ guesses w + 0x0606060606060606 → Joined (guesses w) r → (r ≤ noDigits) × (r < noDigits → Spells w r)
-  hex-is r adds rests j = (le-of-lt (joined-small (guesses w) r guesses-lanes j), λ h. spelled (guesses w) (letters w) guesses-lanes (lanes 1 (w / 64) (lit< tt)) w _ r (lanes 15 (guesses w + 0x0606060606060606) (lit< tt)) adds rests j)
+  pub hex-is : (r : ℕ) → guesses w + 0x3030303030303030 + 39 * letters w ≡ w → bitAnd (guesses w + 0x0606060606060606) 0x0f0f0f0f0f0f0f0f + 16 * letters w ≡ guesses w + 0x0606060606060606 → Joined (guesses w) r → Spells w r
+  hex-is r adds rests j = spelled (guesses w) (letters w) guesses-lanes (lanes 1 (w / 64) (lit< tt)) w _ r (lanes 15 (guesses w + 0x0606060606060606) (lit< tt)) adds rests j
 
 -- digits by pairs
 byte-low : (x p : ℕ) → x < 256 → (x + 256 * p) % 256 ≡ x
@@ -204,7 +201,7 @@ joined-is x n q = record {
 }
 
 -- the first digit and the others
-digit-first : (b : ℕ) (w : List ℕ) → allDigits 16 (b ∷ w) ≡ true → (digitOf b < 16) × (allDigits 16 w ≡ true)
+pub digit-first : (b : ℕ) (w : List ℕ) → allDigits 16 (b ∷ w) ≡ true → (digitOf b < 16) × (allDigits 16 w ≡ true)
 unfolding allDigits
 digit-first b w e = step (ltb (digitOf b) 16) refl e
   where

@@ -4,7 +4,6 @@ ghost use mathlib.Core.Bool.{true};
 ghost use mathlib.Core.List.{[]};
 ghost use Prim.Native.Nat.{_+_, _<_, _≤_};
 ghost use lib.ListN.{length, getD, take, drop};
-ghost use Rattle.scan.specs.Scan.{isLineFeed, placeFrom};
 ghost use Rattle.columns.specs.Lines.{MetAt};
 ghost use Rattle.columns.specs.Work.{noDigits, packed, Lanes, Joined, Spells, Digits, Parted, Prefix, Run, Ends, FrontsAt, ColumnsAt, QuickAt};
 use register::Met;
@@ -78,7 +77,7 @@ fn joined(x: u64) -> u64
 
 // The number that eight bytes write, as digits in lower case. They are taken together: x has a guess at each digit, whatever the bytes are, and l has 1 for each letter; then the bytes are compared with what such digits are written as.
 fn hex(w: u64) -> u64
-    ensures { λ r. ⌜ (r ≤ noDigits) × (r < noDigits → Spells w r) ⌝ }
+    ensures { λ r. ⌜ (r < noDigits → Spells w r) ⌝ }
 {
     let l = (w / 64) & ONES;
     let x = ((w & FIFTEENS) + 9 * l) & FIFTEENS;
@@ -165,7 +164,7 @@ fn padded(s: &[u8], i: usize) -> usize
     i + 3
 }
 
-// `0xhhhh dddd 0xhh`, which a space follows, and two digits at another place: all of them are read together.
+// `0xhhhh dddd 0xhh`, which a space follows, and two digits at another place: the hexadecimal ones are read together.
 fn read_front(s: &[u8], i: usize, k: usize) -> Fronts
     requires { ⌜ (i + 17 ≤ length (now s)) × (k + 2 ≤ length (now s)) × (getD (now s) (i + 16) 0 ≡ 32) ⌝ }
     ensures { λ r. ⌜ FrontsAt (now (s .entry)) i k r ⌝ }

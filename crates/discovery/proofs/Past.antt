@@ -20,7 +20,8 @@ use Rattle.walk.specs.Tables.{rowsOf, lastOf}
 use Rattle.walk.proofs.Laws.{hopped}
 use Rattle.path.specs.Put.{Sized}
 use Rattle.receive.specs.Receive.{at, Lane, Lane.lane, Lane.passed, Lane.dropped, laneOf, atLane, Receive, Receive.received, Receive.nothing, Receive.lost, usesRing, orRest, orNext, amongHops, amongDevices, receive}
-use Rattle.receive.proofs.Hops.{no-entry, walk-none}
+use Rattle.search.proofs.Laws.{past-hops}
+use Rattle.receive.proofs.Hops.{walk-none}
 use Rattle.tunnel.specs.Tunnels.{Tunnel, txPath, withPaths, ringTunnel, oneDma, rings}
 use Rattle.discovery.specs.Work.{ringsEnd, among}
 use Rattle.discovery.proofs.Rings.{rings-split}
@@ -198,7 +199,7 @@ module _ (en ad ro ma : List ℕ) where
 
   past-walk : (p a h : ℕ) → 65535 < h → walkFrom x (at p a h) ≡ value none
   unfolding rowsOf rowsWith at
-  past-walk p a h k = walk-none x (at p a h) (no-entry en p a h k)
+  past-walk p a h k = walk-none x (at p a h) (past-hops en p a h k)
 
   past-out : (l : List ℕ) (v : ℕ) → 65535 < v → among v (outs (entriesIn l)) ≡ false
   unfolding among entryWord

@@ -19,9 +19,8 @@ use Rattle.walk.specs.Tables.{rowsOf, Tabled}
 use Rattle.receive.specs.Receive.{at, Receive, receive}
 use Rattle.receive.specs.Tables.{Said, saidOf, receivedOutcome, Receives}
 use Rattle.receive.specs.declared.Received.{Received}
-use Rattle.receive.specs.declared.Received.the-variants as answer
 use Rattle.receive.proofs.Hops.{walk-none}
-use Rattle.tunnel.specs.Tunnels.{Tunnel, ringTunnel, oneDma}
+use Rattle.tunnel.specs.Tunnels.{ringTunnel, oneDma}
 use Rattle.discovery.specs.Work.{among, outHops, Quiet, Unasked, markOf, Unmarked, Spared, Resting, Idle}
 use Rattle.discovery.proofs.Past.{unused, receive-alike, bare-tunnel}
 

@@ -1,17 +1,15 @@
 -- Laws on the HopIDs of an adapter: those without an entry give nothing, and what the walk from the next one comes to. Assumes nothing.
-use Prim.Native.Nat.{ℕ, zero, suc, _+_, _-_, _/_, _%_, _≤_, _<_}
-use mathlib.Core.Bool.{Bool, false, cond, _&&_, and-false}
+use Prim.Native.Nat.{ℕ, zero, suc, _+_, _-_, _≤_, _<_}
+use mathlib.Core.Bool.{Bool, cond}
 use mathlib.Core.Path.{_≡_, refl, sym, ap, _∙_}
 use mathlib.Core.List.{List, [], _∷_}
 use mathlib.Core.Option.{Option, none, some}
 use native.Mathlib.Omega.{arith}
 use native.Mathlib.Numerals.{add-one}
-use lib.Dec.{eqb}
 use lib.ListN.{length, getD}
 use borrow.Author.Tests.{eq-eqb, ne-eqb}
 use Rattle.refusal.specs.Outcome.{Outcome, refused, value, bind}
 use Rattle.tables.specs.Rows.{EntryRow, Rows, entryIn}
-use Rattle.tables.specs.Packed.{entryWord, entriesIn}
 use Rattle.load.specs.Answers.{refusedBy}
 use Rattle.load.specs.declared.Refusal.{Refusal}
 use Rattle.load.proofs.Result.{refused-bind}
@@ -23,20 +21,10 @@ use Rattle.walk.specs.Tables.{Leaving, lastOf, leavingBy, leavingOf, leaves}
 use Rattle.walk.proofs.Laws.{walk-ends, hopped, path-rule}
 use Rattle.path.proofs.Writing.{refused-as}
 use Rattle.receive.specs.Receive.{at, Receive, Receive.received, Receive.nothing, usesRing, orRest, amongHops, orNext}
-use Rattle.receive.specs.Tables.{Said, Said.path, saidOf}
+use Rattle.receive.specs.Tables.{Said.path, saidOf}
 use Rattle.receive.specs.Work.{said, upTo}
 
 -- ---- HopIDs without an entry
-
--- a HopID has 16 bits
-entry-large : (w p a h : ℕ) → 65535 < h → (eqb (entryWord w .device) p && eqb (entryWord w .adapter) a && eqb (entryWord w .inHop) h) ≡ false
-unfolding entryWord
-entry-large w p a h l = ap (λ (b : Bool). eqb (w / 281474976710656) p && eqb (w / 1099511627776 % 256) a && b) (ne-eqb (w / 16777216 % 65536) h (λ e. omega arith)) ∙ and-false (eqb (w / 281474976710656) p && eqb (w / 1099511627776 % 256) a)
-
-pub no-entry : (t : List ℕ) (p a h : ℕ) → 65535 < h → entryIn (entriesIn t) p a h ≡ none
-unfolding entryIn
-no-entry [] p a h l = refl
-no-entry (w ∷ t) p a h l = rw (entry-large w p a h l) (no-entry t p a h l)
 
 -- a walk that stops where it starts
 pub walk-none : (x : Rows) (s : Stand) → entryIn (x .entries) (s .place) (s .adapter) (s .hopId) ≡ none → walkFrom x s ≡ value none

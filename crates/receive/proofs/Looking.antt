@@ -14,6 +14,7 @@ use Rattle.tables.specs.Found.{entryFound}
 use Rattle.load.specs.declared.Refusal.{Refusal}
 use Rattle.fabric.specs.Tables.{rowsWith}
 use Rattle.search.specs.Ahead.{HopAhead}
+use Rattle.search.proofs.Laws.{past-hops}
 use Rattle.search.specs.declared.HopAt.{HopAt}
 use Rattle.search.specs.declared.HopAt.the-variants as hop
 use Rattle.walk.specs.Rule.{walkFrom}
@@ -21,11 +22,11 @@ use Rattle.walk.specs.Tables.{rowsOf, Tabled, Leaving, leaves, Tallied, Onward,
 use Rattle.walk.specs.declared.Walked.{Walked}
 use Rattle.walk.specs.declared.Walked.the-variants as walked
 use Rattle.receive.specs.Receive.{at, Receive, orRest, orNext}
-use Rattle.receive.specs.Tables.{Said, Said.path, receivedOutcome, hopsBy, saidFrom, walkSaid, isPath}
+use Rattle.receive.specs.Tables.{Said.path, receivedOutcome, hopsBy, saidFrom, walkSaid, isPath}
 use Rattle.receive.specs.Work.{said, upTo, Stepped, endHops, Looked}
 use Rattle.receive.specs.declared.Received.the-variants as answer
 use Rattle.receive.specs.declared.Step.the-variants as step
-use Rattle.receive.proofs.Hops.{no-entry, leap, over, first-walk, walk-refused, walk-absent, walk-other, walk-fits}
+use Rattle.receive.proofs.Hops.{leap, over, first-walk, walk-refused, walk-absent, walk-other, walk-fits}
 
 module _ (en ad ro ma : List ℕ) (ring q n h hi : ℕ) where
   -- none is left
@@ -40,7 +41,7 @@ module _ (en ad ro ma : List ℕ) (ring q n h hi : ℕ) where
   }
 
   pub looked-large : 65535 < h → Looked en ad ro ma ring q n h hi step.Over
-  looked-large l = looked-none (λ t m i a b. no-entry en q n i (omega arith))
+  looked-large l = looked-none (λ t m i a b. past-hops en q n i (omega arith))
 
   module _ {u : HopAt} (ahead : HopAhead en q n h u) where
     pub looked-over : u ≡ hop.None → Looked en ad ro ma ring q n h hi step.Over

@@ -8,7 +8,7 @@ use native.Mathlib.Omega.{arith}
 use native.Mathlib.Decide.{decLt}
 use native.Mathlib.Numerals.{add-one}
 use lib.Dec.{eqb}
-use lib.ListN.{length, set, take, drop, length-set}
+use lib.ListN.{length, take, drop, length-set}
 use lib.Seq.{drop-nil, drop-drop, take-suc-set}
 use borrow.Author.Tests.{ne-eqb}
 use Rattle.refusal.specs.Outcome.{Outcome, value, bind}

@@ -1,19 +1,17 @@
 -- Laws on the word of an adapter, and on whether it is a lane. Assumes nothing.
-use Prim.Native.Nat.{ℕ, zero, suc, _*_, _+_, _/_, _%_, _<_, _≤_}
+use Prim.Native.Nat.{ℕ, zero, suc, _/_, _%_}
 use mathlib.Core.Bool.{Bool, true, false, cond}
 use mathlib.Core.Path.{_≡_, refl, sym, ap, _∙_, subst}
 use mathlib.Core.List.{List}
-use mathlib.Core.Option.{Option, none, some, Option·none-ne-some, Option·some-injective}
+use mathlib.Core.Option.{some, Option·none-ne-some, Option·some-injective}
 use native.Mathlib.Omega.{arith}
 use lib.Dec.{eqb}
-use lib.ListN.{length, getD}
 use borrow.Author.Tests.{ne-eqb}
 use Rattle.refusal.specs.Outcome.{value}
 use Rattle.refusal.specs.Refusal.{refusalOf}
 use Rattle.refusal.specs.declared.Site.{Site}
 use Rattle.refusal.specs.declared.Fault.the-variants.{NoField}
 use Rattle.usb4.specs.declared.AdapterType.{AdapterType}
-use Rattle.usb4.specs.declared.AdapterType.the-variants as type
 use Rattle.usb4.specs.declared.Speed.the-variants as speed
 use Rattle.state.specs.State.{speedOutcome}
 use Rattle.state.specs.declared.SpeedFound.{SpeedFound}
@@ -22,10 +20,10 @@ use Rattle.adapter.specs.Adapter.{AdapterRow, factsRow, isLane, maxHopOutcome}
 use Rattle.adapter.specs.declared.Facts.{Facts}
 use Rattle.adapter.specs.declared.MaxHop.{MaxHop}
 use Rattle.adapter.specs.declared.MaxHop.the-variants as most
-use Rattle.tables.specs.Packed.{typeBy, stateBy, speedBy, numberBy, adapterWord}
-use Rattle.tables.specs.Found.{Boundary, AdapterSought, adapterFound}
+use Rattle.tables.specs.Packed.{typeBy, speedBy, numberBy, adapterWord}
+use Rattle.tables.specs.Found.{AdapterSought, adapterFound}
 use Rattle.tables.specs.declared.AdapterFound.the-variants as adapter
-use Rattle.tables.proofs.Laws.{facts-made, adapter-past, adapter-missing, adapter-found}
+use Rattle.tables.proofs.Laws.{facts-made}
 use Rattle.search.specs.Lanes.{laneIf, laneFound, LaneSought}
 use Rattle.search.specs.Work.{WordSought}
 use Rattle.search.specs.declared.WordAt.{WordAt}

@@ -42,7 +42,7 @@ and-false true = refl
 and-false false = refl
 
 -- an entry's HopID has 16 bits
-past-hops : (t : List ℕ) (p a j : ℕ) → 65536 ≤ j → entryIn (entriesIn t) p a j ≡ none
+pub past-hops : (t : List ℕ) (p a j : ℕ) → 65535 < j → entryIn (entriesIn t) p a j ≡ none
 unfolding entryIn entryWord
 past-hops [] p a j l = refl
 past-hops (w ∷ t) p a j l = rw (ne-eqb (w / 16777216 % 65536) j (λ e. omega arith), and-false (eqb (w / 281474976710656) p && eqb (w / 1099511627776 % 256) a)) (past-hops t p a j l)

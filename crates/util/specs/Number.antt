@@ -17,10 +17,6 @@ digitOf b =
     (cond (ltb b 97) 16
     (cond (leb b 102) (b - 87) 16)))))
 
--- the same, with another number for any other byte
-unfoldable pub digitOr : ℕ → ℕ → ℕ
-digitOr b other = cond (ltb (digitOf b) 16) (digitOf b) other
-
 -- one `0x` dropped if present
 unfoldable pub afterPrefix : List ℕ → List ℕ
 afterPrefix s = cond (eqb (getD s 0 0) 48 && eqb (getD s 1 0) 120) (drop 2 s) s

@@ -2,7 +2,7 @@ ghost use Rattle.util.specs.Work.{digitBits};
 ghost use mathlib.Core.Path.{_≡_};
 ghost use Prim.Native.Nat.{_<_, _≤_};
 ghost use lib.ListN.{length};
-ghost use Rattle.util.specs.Number.{digitOf, digitOr, afterPrefix, afterPlus, numberOf, hexNumber, decimalNumber};
+ghost use Rattle.util.specs.Number.{digitOf, afterPrefix, afterPlus, numberOf, hexNumber, decimalNumber};
 ghost use Rattle.util.specs.Bits.{bitsOf};
 
 // A number that was read, or none.
@@ -42,22 +42,15 @@ fn digit_bits(b: u8) -> u64
     0
 }
 
-// The value of a digit, hexadecimal in either case, or another number for any other byte. No test tells the kinds of digits apart, since it would be mispredicted at every other one.
-pub fn digit_or(b: u8, other: u64) -> u64
-    ensures { λ r. ⌜ r ≡ digitOr b other ⌝ }
+// The value of a digit, hexadecimal in either case; 16 for any other byte. No test tells the kinds of digits apart, since it would be mispredicted at every other one.
+fn digit(b: u8) -> u64
+    ensures { λ r. ⌜ r ≡ digitOf b ⌝ }
 {
     let k = wide(b);
     if (digit_bits(b) >> (k % 64)) % 2 == 1 {
         return k % 16 + 9 * (k / 64);
     }
-    other
-}
-
-// The value of a digit; 16 for any other byte.
-fn digit(b: u8) -> u64
-    ensures { λ r. ⌜ r ≡ digitOf b ⌝ }
-{
-    digit_or(b, 16)
+    16
 }
 
 // The text after one `0x`, if it begins with that.

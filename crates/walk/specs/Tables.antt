@@ -86,7 +86,7 @@ pub record Tallied (en ad ro ma : List ℕ) (s : Stand) (r : Walked) : Type 0 wh
   pub walks : Tabled en ad ro → (d : DeviceRow) → askedDevice (rowsOf en ad ro ma) (s .place) ≡ value d
       → WalkRule (rowsOf en ad ro ma) s noNeed 0 (λ hs. tallyOutcome r ≡ value (leavingOf hs)) (hopsOutcome r)
 
--- How each walk ends that starts at the device at place p and finds there an entry with this out adapter and out HopID. Where no such entry stands it is free, but that a path has a hop, and no more than there are entries.
+-- How each walk ends that starts at the device at place p and finds there an entry with this out adapter and out HopID. Where no walk finds such an entry it is free, but that a path has a hop, and no more than there are entries.
 pub record Onward (en ad ro ma : List ℕ) (p out hop : ℕ) (r : Walked) : Type 0 where
   pub ends : (a h : ℕ) → EntrySought en p a h (entry.Entry out hop) → Tallied en ad ro ma (record { place = p; adapter = a; hopId = h }) r
   pub few : hopsBy r ≤ length en

@@ -1,5 +1,4 @@
 // The walk (module 7, `discover_path`) on the tables that a survey is loaded to.
-ghost use Rattle.walk.specs.Walking.{Stand};
 ghost use Rattle.walk.specs.Tables.{Tallied, Onward};
 use fabric::Next;
 use load::Refusal;
@@ -80,7 +79,7 @@ pub fn onward(
     }
 }
 
-// The same. The slices that a call hands on are copied first: here, and not where a walk ends without a hop.
+// As `onward`. A function copies the slices that it hands on as it begins: this one does, so that a walk without a hop copies none.
 fn go_on(
     entries: &[u64],
     adapters: &[u64],

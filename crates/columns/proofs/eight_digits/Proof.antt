@@ -57,7 +57,7 @@ hex-requires : tie.Need-hex-requires
 hex-requires c κs = search needs
 
 returns : tie.Need-returns
-returns c = let g = c .before .before .before .before .before .before .before .before .before .before .before in λ h. eight-digits (now (g .args .s)) (λ j. c .before .before .shared-slice-known9 .given j .fits) _ _ (g .args .i) (g .pre) (c .before .word .ensures) (c .hex .ensures .1 h)
+returns c = let g = c .before .before .before .before .before .before .before .before .before .before .before in λ h. eight-digits (now (g .args .s)) (λ j. c .before .before .shared-slice-known9 .given j .fits) _ _ (g .args .i) (g .pre) (c .before .word .ensures) (c .hex .ensures h)
 
 pub eight-digits-spec : {M : Type 1} → statement M
 eight-digits-spec =

@@ -21,7 +21,7 @@ add-if1-2 : tie.Need-add-if1-2
 add-if1-2 c = omega (arith, letters-most (c .args .w), guesses-most (c .args .w))
 
 returns : tie.Need-returns
-returns c = (omega arith, λ h. absurd (omega arith))
+returns c = λ h. absurd (omega arith)
 
 add-z : tie.Need-add-z
 add-z c = search needs
@@ -36,13 +36,13 @@ add-if2-2 : tie.Need-add-if2-2
 add-if2-2 c = search needs
 
 returns-2 : tie.Need-returns-2
-returns-2 c = (omega arith, λ h. absurd (omega arith))
+returns-2 c = λ h. absurd (omega arith)
 
 joined-requires : tie.Need-joined-requires
 joined-requires c κs = guesses-lanes (c .before .before .args .w)
 
 returns-3 : tie.Need-returns-3
-returns-3 c = hex-is (c .before .before .before .args .w) _ (c .before .before .if1 .left) (c .before .if2 .left) (c .joined .ensures)
+returns-3 c = λ h. hex-is (c .before .before .before .args .w) _ (c .before .before .if1 .left) (c .before .if2 .left) (c .joined .ensures)
 
 pub hex-spec : {M : Type 1} → statement M
 hex-spec =

@@ -51,7 +51,7 @@ hex-requires : tie.Need-hex-requires
 hex-requires c κs = search needs
 
 returns : tie.Need-returns
-returns c = let g = c .before .before .before .before .before .before .before .before .before .before .before in λ h. parted-digits (now (g .args .s)) (λ j. c .before .before .shared-slice-known9 .given j .fits) _ _ (g .args .i) (g .args .j) (g .args .k) (g .pre .0) (g .pre .1) (g .pre .2) (c .before .word .ensures) (c .hex .ensures .1 h)
+returns c = let g = c .before .before .before .before .before .before .before .before .before .before .before in λ h. parted-digits (now (g .args .s)) (λ j. c .before .before .shared-slice-known9 .given j .fits) _ _ (g .args .i) (g .args .j) (g .args .k) (g .pre .0) (g .pre .1) (g .pre .2) (c .before .word .ensures) (c .hex .ensures h)
 
 pub parted-digits-spec : {M : Type 1} → statement M
 parted-digits-spec =
