@@ -602,6 +602,8 @@ def rare(chance, round_):
         yield OURS, [(tunnels.many_rings(chance, OURS, 30, 60), ()), (tunnels.long_list(chance, OURS, 400), ())]
     elif what == 6:
         yield OURS, [(tunnels.most_rings(chance, OURS, 2047), ()), (tunnels.most_hops(chance, OURS, 2047), ())]
+    elif what == 7:  # the same where there is room for many
+        yield wide(), [(tunnels.crowded(chance, wide(), n), ()) for n in (2047, 2048, 2049)]
     elif what == 8:
         yield gen_t(ports=1), [(tunnels.gen_t_fault(chance, gen_t(ports=1)), ()) for _ in range(3)]
     elif what == 10:

@@ -295,6 +295,20 @@ def many_paths(chance, sets, count):
     return made.words()
 
 
+def crowded(chance, sets, count):
+    """So many receive paths of one hop, most of them for rings that aren't there, and a few TX paths."""
+    rings = 6
+    made = two_hosts(chance, sets, rings, 7 + count)
+    leaves = [100 + i % 1900 for i in range(count)]
+    for ring, at in enumerate([0, count - 1] + chance.mixed([*range(1, count - 1)])[: rings - 3], 1):
+        leaves[at] = ring
+    for i, hop in enumerate(leaves):
+        made.entry((1, 2), 8 + i, 3, hop)
+    for ring in (1, 2, rings):
+        made.run((0, 3), ring, (1, 2))
+    return made.words()
+
+
 def most_rings(chance, sets, rings):
     """The most rings that a host interface can have, and one more: TX of the first and of the last that has entries, RX of the last."""
     made = two_hosts(chance, sets, rings, 9)
