@@ -69,6 +69,22 @@ static void *discover(void *p)
     return p;
 }
 
+static void *discover_rings(void *p)
+{
+    tunnels_discover(BOTH, 0, 3, output, 4 * RECORDS, answer);
+    return p;
+}
+
+/* A host interface with so many receive paths, all to itself, and another host. */
+static void write_rings(unsigned paths)
+{
+    char *s = text;
+    s += sprintf(s, "@router 0 0\n@regs\n1 1 0 0 c300\n@adapter 1\n@regs\n0 0 0 0 0\n1 1 0 0 0\n2 2 0 0 1\n5 5 0 0 7ff\n@paths\n");
+    for (unsigned i = 0; i < paths; i++)
+        s += sprintf(s, "%x 0 8 %x\n", 16 + 2 * i, 0x80001801 + i);
+    sprintf(s, "@adapter 2\n@adapter 3\n@regs\n0 0 0 0 0\n1 1 0 0 0\n2 2 0 0 2\n5 5 0 0 7ff\n@xdomain 0 1\n");
+}
+
 static size_t used(void *(*call)(void *))
 {
     static unsigned char stack[STACK];
@@ -114,6 +130,12 @@ int main(int argc, char **argv)
     say("tunnels_parent", parent);
     say("tunnels_walk", walk);
     say("tunnels_discover", discover);
+    write_rings(63);
+    read_text(NULL);
+    say("tunnels_discover, 63 receive paths", discover_rings);
+    write_rings(64); /* more than a search notes with little room */
+    read_text(NULL);
+    say("tunnels_discover, 64 receive paths", discover_rings);
     for (size_t i = 0; i < RECORDS; i++)
         memcpy(text + 8 * i, i == 0 ? "1 0 0 0\n" : "0 0 0 0\n", 8); /* out of order, so that they are sorted */
     say("tunnels_read_dump, 65536 records", read_dump);

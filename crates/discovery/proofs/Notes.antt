@@ -89,7 +89,7 @@ module _ (en ad ro ma notes : List ℕ) (ring : ℕ) (last : Received) (t : Told
   pub told-path : i < length notes → (r : Received) → NotePath en ad ro ma ring (getD notes i 0) r → Receives en ad ro ma ring r
   told-path l r n = record { answers = λ y. n .says y ∙ sym (t .tells few .tells y ring ∙ f .here l (rowsOf en ad ro ma) (receivedOutcome ring last)); few = n .few }
 
--- a search's notes: as many as are known to tell of all rings are fewer than it has room for
+-- a search's notes tell of all rings, where the count that is gone by is less than it had room for
 pub told-known : (en ad ro ma : List ℕ) (ring room : ℕ) (found : Received) (noted : ℕ) (notes : List ℕ) → Searches room en ad ro ma ring found noted notes → (count : ℕ) → Known found noted count → count ≤ length notes → (count < 2048 → count < room) → Told en ad ro ma (take count notes) found
 told-known en ad ro ma ring room found noted notes f count k fits less = record {
   tells = λ l.

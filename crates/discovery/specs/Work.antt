@@ -112,7 +112,7 @@ pub record Spared (w owner : ℕ) (old new : List ℕ) : Type 0 where
 pub record Resting (en : List ℕ) (p a : ℕ) (idle : List ℕ) : Type 0 where
   pub rests : (j : ℕ) → getD idle (markOf j) 0 ≡ 1 → Unasked en p a j
 
--- how many notes of a search tell of all rings; 2,048 for none
+-- how many notes of a search there are; 2,048 where a path is found, or there are that many
 pub record Known (found : Received) (noted r : ℕ) : Type 0 where
   pub within : r ≤ 2048
   pub known : r < 2048 → (r ≡ noted) × (isPath found ≡ false)

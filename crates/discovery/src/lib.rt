@@ -43,7 +43,7 @@ const MOST_ENTRIES: usize = 4096;
 
 const MOST_DEVICES: usize = 4096;
 
-// As many notes of a search tell nothing of other rings. No search notes more.
+// So many notes of a search tell nothing of other rings; no search has more. It stands too for those of a search that found a path.
 const UNTOLD: usize = 2048;
 
 // The head word of a tunnel.
@@ -249,7 +249,7 @@ fn at_rest(entries: &[u64], place: usize, adapter: u8, found: Received) -> [u8; 
     idle
 }
 
-// How many notes of a search tell of all rings; `UNTOLD` if they don't.
+// How many notes of a search there are; `UNTOLD` where a path is found, or there are that many. As many as the search had room for tell nothing.
 fn known_notes(found: Received, noted: usize) -> usize
     ensures { λ r. ⌜ Known found noted r ⌝ }
 {
@@ -658,7 +658,7 @@ fn put_noted(
     }
 }
 
-// The same by a search with room for many notes: 16 KiB, which most surveys needn't pay for.
+// The same by a search with room for many notes: some 32 KiB of stack, which most surveys needn't pay for.
 fn put_far(
     entries: &[u64],
     adapters: &[u64],
