@@ -1,4 +1,6 @@
 // The codes that registers and surveys hold, and what each stands for.
+#![tactic(auto)]
+
 ghost use Rattle.std.specs.Prelude.{◌≡◌};
 ghost use Rattle.usb4.specs.Codes.{type_of, lane_state_of, speed_of, device_kind_of};
 

@@ -1,4 +1,6 @@
 // The lines of a text, read by their columns where they have those that the kernel prints, else by their tokens.
+#![tactic(auto)]
+
 ghost use Rattle.std.specs.Prelude.{◌≡◌, true, [], ◌+◌, ◌<◌, ◌≤◌, length, get_or, take, drop};
 ghost use Rattle.columns.specs.Lines.{MetAt};
 ghost use Rattle.columns.specs.Work.{no_digits, packed, Lanes, Joined, Spells, Digits, Parted, Prefix, Run, Ends, FrontsAt, ColumnsAt, QuickAt};

@@ -1,4 +1,6 @@
 // Description words: where the parts of a group stand.
+#![tactic(auto)]
+
 ghost use Rattle.std.specs.Prelude.{◌≡◌, ◌<◌, ◌/◌, ◌%◌, ◌^◌};
 ghost use Rattle.layout.specs.Layout.{word, name_words, byte_at, size_of};
 

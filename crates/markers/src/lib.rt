@@ -1,4 +1,6 @@
 // Markers of the program's text.
+#![tactic(auto)]
+
 ghost use Rattle.std.specs.Prelude.{◌≡◌, ◌-◌, ◌≤◌, length, take, drop};
 ghost use Rattle.markers.specs.Markers.{same, plain_marker, adapter_marker, device_marker, marker_of, marker_by};
 

@@ -1,4 +1,6 @@
 // Where a fault was met: a device by its place in the survey and an adapter by its number; 0 for the router itself and an xdomain, and the missing number for a missing out adapter.
+#![tactic(auto)]
+
 #[derive(Drop)]
 pub struct Site {
     pub place: usize,

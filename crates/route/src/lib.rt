@@ -1,3 +1,5 @@
+#![tactic(auto)]
+
 ghost use Rattle.std.specs.Prelude.{◌≡◌, ◌*◌, ◌<◌, ◌^◌};
 ghost use Rattle.route.specs.Route.{depth_of, upstream_route, downstream_route, adapter_beneath, downstream_adapter};
 

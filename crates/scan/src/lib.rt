@@ -1,3 +1,5 @@
+#![tactic(auto)]
+
 ghost use Rattle.std.specs.Prelude.{◌≤◌, ◌<◌, ◌≡◌, length};
 ghost use Rattle.scan.specs.Scan.{is_space, is_not, is_line_feed, is_high, place_from, TokenAt};
 

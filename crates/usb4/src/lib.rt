@@ -1,3 +1,5 @@
+#![tactic(auto)]
+
 ghost use Rattle.std.specs.Prelude.{◌≡◌};
 ghost use Rattle.usb4.specs.Numbers.{type_number, state_number, speed_number, device_kind_number, tunnel_number};
 

@@ -1,3 +1,5 @@
+#![tactic(auto)]
+
 ghost use Rattle.util.specs.Work.{digit_bits};
 ghost use Rattle.std.specs.Prelude.{◌≡◌, ◌<◌, ◌≤◌, length};
 ghost use Rattle.util.specs.Number.{digit_of, after_prefix, after_plus, number_of, hex_number, decimal_number};

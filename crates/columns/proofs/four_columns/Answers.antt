@@ -1,0 +1,31 @@
+use Prim.Native.Nat.{◌+◌}
+use native.Mathlib.Omega.{arith}
+use borrow.Author.Tests.{not-false}
+use Rattle.columns.specs.Work.{ColumnsAt}
+use Rattle.register.specs.Line.{register_of}
+use Rattle.columns.proofs.InColumns.{front_of, four_columns}
+use mathlib.Core.Bool.{not}
+use mathlib.Core.Path.{ap}
+use Rattle.columns.proofs.four_columns.Goals as goal
+
+pub returns-then-not-next_prefixed : goal.returns-then-not-next_prefixed
+unfolding ColumnsAt
+returns-then-not-next_prefixed c = tt
+
+pub read_front-requires : goal.read_front-requires
+read_front-requires c = (omega (arith, c.requires.within), omega (arith, c.requires.within), (c.next_prefixed.ensures (not-false _ (ap (λ b. not b) c.if-not-next_prefixed.false))).0)
+
+pub returns-in_default : goal.returns-in_default
+unfolding ColumnsAt
+returns-in_default c = tt
+
+pub returns-then-value-gt-MAX_32 : goal.returns-then-value-gt-MAX_32
+unfolding ColumnsAt
+returns-then-value-gt-MAX_32 c = tt
+
+pub returns : goal.returns
+unfolding ColumnsAt register_of
+returns c = let s = c.args.s.now in
+    let i = c.args.i in
+    let p = c.next_prefixed.ensures (not-false _ (ap (λ b. not b) c.if-not-next_prefixed.false)) in
+    four_columns s i (i + 14) c.in-Read.f _ (front_of s i (i + 14) _ _ c.in-Read.is c.read_front.ensures) c.if-value-gt-MAX_32.false c.requires p.1 (c.eight_digits-value.ensures (omega (arith, c.if-value-gt-MAX_32.false)))
