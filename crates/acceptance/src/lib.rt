@@ -5,7 +5,7 @@ ghost use Rattle.acceptance.specs.Accepted.{accepted_answer, accepted_outcome};
 use load::{LoadAnswer, Refusal};
 
 // Whether a survey is accepted: its devices and valid path entries, or why it is refused.
-#[derive(Drop)]
+#[derive(Clone, Copy)]
 pub enum Acceptance {
     Survey { devices: usize, entries: usize },
     Refused(Refusal),

@@ -1,4 +1,6 @@
 // Adapters (module 5): what one adapter of survey words is loaded to, and its capabilities. Any words will do.
+#![tactic(auto)]
+
 ghost use Rattle.std.specs.Prelude.{◌≡◌, ◌&&◌, not, ℕ};
 ghost use Rattle.refusal.specs.declared.Site.{Site};
 ghost use Rattle.util.specs.Text.{bytes_of};
@@ -17,28 +19,28 @@ use usb4::{AdapterType, State};
 const ADP_CAP_ID_USB4: u32 = 0x6;
 
 // The value of the third register, or there are fewer.
-#[derive(Drop)]
+#[derive(Clone, Copy)]
 pub enum Third {
     Value(u32),
     Few,
 }
 
 // An adapter's kind, or it has too few registers.
-#[derive(Drop)]
+#[derive(Clone, Copy)]
 pub enum KindFound {
     Kind(AdapterType),
     Few,
 }
 
 // A least HopID, or none.
-#[derive(Drop)]
+#[derive(Clone, Copy)]
 pub enum HopFound {
     Hop(u32),
     None,
 }
 
 // A largest HopID, none, or 6.
-#[derive(Drop)]
+#[derive(Clone, Copy)]
 pub enum MaxHop {
     Hop(u32),
     None,
@@ -46,14 +48,14 @@ pub enum MaxHop {
 }
 
 // A part of an adapter's registers, by indices: from start up to end, which is left out.
-#[derive(Drop)]
+#[derive(Clone, Copy)]
 pub enum CapFound {
     Part { start: usize, end: usize },
     None,
 }
 
 // What is known of an adapter.
-#[derive(Drop)]
+#[derive(Clone, Copy)]
 pub struct Facts {
     pub number: u8,
     pub kind: AdapterType,
@@ -65,14 +67,14 @@ pub struct Facts {
 }
 
 // An adapter, or what refuses it: 5, 6 or 8.
-#[derive(Drop)]
+#[derive(Clone, Copy)]
 pub enum Decoded {
     Adapter(Facts),
     Refused(Fault),
 }
 
 // Where a path entry leads; one that isn't valid; or 6.
-#[derive(Drop)]
+#[derive(Clone, Copy)]
 pub enum EntryFound {
     Entry { out_adapter: u8, out_hop: u16 },
     Invalid,

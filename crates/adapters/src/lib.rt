@@ -12,7 +12,7 @@ use tables::AdapterFound;
 use usb4::{AdapterType, Speed, State};
 
 // What is said of an adapter: its kind, state, whether it is lane 0 or lane 1, its least HopID, whether it is enabled.
-#[derive(Drop)]
+#[derive(Clone, Copy)]
 pub struct AdapterInfo {
     pub kind: AdapterType,
     pub state: State,
@@ -22,19 +22,19 @@ pub struct AdapterInfo {
     pub enabled: bool,
 }
 
-#[derive(Drop)]
+#[derive(Clone, Copy)]
 pub enum AdapterAnswer {
     Adapter(AdapterInfo),
     Refused(Refusal),
 }
 
-#[derive(Drop)]
+#[derive(Clone, Copy)]
 pub enum SpeedAnswer {
     Speed(Speed),
     Refused(Refusal),
 }
 
-#[derive(Drop)]
+#[derive(Clone, Copy)]
 pub enum MaxHopAnswer {
     Hop(u32),
     None,
@@ -42,7 +42,7 @@ pub enum MaxHopAnswer {
 }
 
 // Where the entry leads.
-#[derive(Drop)]
+#[derive(Clone, Copy)]
 pub enum PathAnswer {
     Entry { out_adapter: u8, out_hop: u16 },
     None,
@@ -50,7 +50,7 @@ pub enum PathAnswer {
 }
 
 // The adapter that is asked for, or what refuses it.
-#[derive(Drop)]
+#[derive(Clone, Copy)]
 pub enum RowFound {
     Adapter(Facts),
     Refused(Refusal),

@@ -9,7 +9,7 @@ use adapter::CapFound;
 use load::{LoadAnswer, Refusal};
 
 // A part of the adapter's registers, by indices: from start up to end, which is left out.
-#[derive(Drop)]
+#[derive(Clone, Copy)]
 pub enum CapAnswer {
     Part { start: usize, end: usize },
     None,
@@ -17,7 +17,7 @@ pub enum CapAnswer {
 }
 
 // Where the head of an adapter stands.
-#[derive(Drop)]
+#[derive(Clone, Copy)]
 pub enum HeadFound {
     Head(usize),
     Nowhere,

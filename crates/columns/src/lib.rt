@@ -9,14 +9,14 @@ use register::{Met, Register, Skip};
 use util::{MAX_16, MAX_32, Number};
 
 // What a line of a text is, and where it ends: at LF, or at the end of the text.
-#[derive(Drop)]
+#[derive(Clone, Copy)]
 pub struct LineAt {
     pub met: Met,
     pub end: usize,
 }
 
 // The first three numbers of a line in the columns that the kernel prints, and one of two digits that stands elsewhere.
-#[derive(Drop)]
+#[derive(Clone, Copy)]
 struct Front {
     offset: u16,
     relative_offset: u16,
@@ -24,20 +24,20 @@ struct Front {
     vs_cap_id: u16,
 }
 
-#[derive(Drop)]
+#[derive(Clone, Copy)]
 enum Fronts {
     Read(Front),
     Other,
 }
 
 // What a line in those columns gives; any other line is left to its tokens.
-#[derive(Drop)]
+#[derive(Clone, Copy)]
 enum Columns {
     Record(Register),
     Other,
 }
 
-#[derive(Drop)]
+#[derive(Clone, Copy)]
 enum Quick {
     Found(LineAt),
     Other,

@@ -1,4 +1,6 @@
 // Description words: the check of their rules (refusal 3).
+#![tactic(auto)]
+
 ghost use Rattle.std.specs.Prelude.{◌≡◌, ◌<◌, length};
 ghost use Rattle.description.specs.Rules.{good_byte, good_name, zero_unless, good_head, good_range, good_register, good_field, good_group, check_of, checked_outcome};
 
@@ -6,7 +8,7 @@ ghost use Rattle.description.specs.Rules.{good_byte, good_name, zero_unless, goo
 pub const MAX_WORDS: usize = 16384;
 
 // Whether a list of descriptions is well formed, or the place of the group where it is refused (3).
-#[derive(Drop)]
+#[derive(Clone, Copy)]
 pub enum Checked {
     WellFormed,
     Refused(usize),

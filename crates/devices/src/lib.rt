@@ -10,7 +10,7 @@ use tables::{DeviceFacts, DeviceFound, Upstream};
 use usb4::Kind;
 
 // What is said of a device.
-#[derive(Drop)]
+#[derive(Clone, Copy)]
 pub struct DeviceInfo {
     pub kind: Kind,
     pub usb4: bool,
@@ -19,13 +19,13 @@ pub struct DeviceInfo {
     pub depth: u32,
 }
 
-#[derive(Drop)]
+#[derive(Clone, Copy)]
 pub enum DeviceAnswer {
     Device(DeviceInfo),
     Refused(Refusal),
 }
 
-#[derive(Drop)]
+#[derive(Clone, Copy)]
 pub enum UpstreamAnswer {
     Adapter(u8),
     None,
@@ -33,14 +33,14 @@ pub enum UpstreamAnswer {
 }
 
 // The device that is asked for, or what refuses it.
-#[derive(Drop)]
+#[derive(Clone, Copy)]
 pub enum DeviceRead {
     Device(DeviceFacts),
     Refused(Refusal),
 }
 
 // The adapter that is asked for and its device, or what refuses them.
-#[derive(Drop)]
+#[derive(Clone, Copy)]
 pub enum PairRead {
     Pair(DeviceFacts, Facts),
     Refused(Refusal),

@@ -18,7 +18,7 @@ use usb4::TunnelType;
 use walk::Walked;
 
 // A list of tunnels with its number of words, no list, the words needed (2), or another refusal.
-#[derive(Drop)]
+#[derive(Clone, Copy)]
 pub enum TunnelsAnswer {
     Words(usize),
     Absent,
@@ -27,7 +27,7 @@ pub enum TunnelsAnswer {
 }
 
 // The words that the tunnels of rings need, or what refuses them.
-#[derive(Drop)]
+#[derive(Clone, Copy)]
 pub enum Tally {
     Words(usize),
     Refused(Refusal),

@@ -20,7 +20,7 @@ use search::LaneAt;
 use tables::{DeviceFacts, DeviceFound, RouterFound, Upstream};
 
 // The route of an adapter, none, or what refuses it.
-#[derive(Drop)]
+#[derive(Clone, Copy)]
 pub enum RouteAnswer {
     Route(u64),
     None,
@@ -28,7 +28,7 @@ pub enum RouteAnswer {
 }
 
 // Where a walk goes after a hop: on to an adapter of the device at a place; no further, this hop last; no path at all; or what refuses it.
-#[derive(Drop)]
+#[derive(Clone, Copy)]
 pub enum Next {
     On { place: usize, adapter: u8 },
     Last,

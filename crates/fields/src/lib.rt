@@ -1,11 +1,13 @@
 // Names, and fields by their names (module 4), over description words.
+#![tactic(auto)]
+
 ghost use Rattle.std.specs.Prelude.{◌≡◌, ◌<◌, length};
 ghost use Rattle.layout.specs.Layout.{name_bytes};
 ghost use Rattle.layout.specs.Description.{field_of, fields_behind};
 ghost use Rattle.fields.specs.Names.{lower, alike, name_is, field_is, find_field, find_flag};
 
 // A field's start and end bit.
-#[derive(Drop)]
+#[derive(Clone, Copy)]
 pub enum FieldFound {
     Bits { start: u32, end: u32 },
     Missing,

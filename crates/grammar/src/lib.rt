@@ -8,7 +8,7 @@ use markers::Mark;
 use register::Met;
 
 // The last marker and what came before it: nothing; a device, router or not, and whether `@usb4` followed it; its dump; an adapter; its register dump; its path dump; a path dump that is missing.
-#[derive(Drop)]
+#[derive(Clone, Copy)]
 pub enum Under {
     Nothing,
     Device(bool),
@@ -21,21 +21,21 @@ pub enum Under {
 }
 
 // A line that may stand leads on; any other is wrong.
-#[derive(Drop)]
+#[derive(Clone, Copy)]
 pub enum Step {
     On(Under),
     Wrong,
 }
 
 // The same, with the survey words that the line makes.
-#[derive(Drop)]
+#[derive(Clone, Copy)]
 enum Advance {
     On(Under, usize),
     Wrong,
 }
 
 // How many survey words a text makes; its length where it is too long (2), the place of a byte above 127 (1), or the words made before a line that is wrong, 16,384 for too many (4).
-#[derive(Drop)]
+#[derive(Clone, Copy)]
 pub enum Checked {
     Words(usize),
     Long(usize),
@@ -44,7 +44,7 @@ pub enum Checked {
 }
 
 // The same for the lines alone.
-#[derive(Drop)]
+#[derive(Clone, Copy)]
 enum Lines {
     Words(usize),
     Wrong(usize),

@@ -9,7 +9,7 @@ use load::Refusal;
 use path::WalkAnswer;
 
 // A hop: where it was made, and where it leads.
-#[derive(Drop)]
+#[derive(Clone, Copy)]
 pub struct Hop {
     pub place: usize,
     pub in_adapter: u8,
@@ -19,7 +19,7 @@ pub struct Hop {
 }
 
 // How many hops a path has, no path, the records needed (2), or another refusal.
-#[derive(Drop)]
+#[derive(Clone, Copy)]
 pub enum HopsAnswer {
     Path(usize),
     Absent,

@@ -1,4 +1,6 @@
 // Registers and heads of survey words, one after another. The words need not be well formed.
+#![tactic(auto)]
+
 ghost use Rattle.std.specs.Prelude.{◌≡◌, take};
 ghost use Rattle.listing.specs.After.{NextRegister, NextHead};
 

@@ -26,7 +26,7 @@ use tables::Upstream;
 use usb4::AdapterType;
 
 // What a call on a survey refuses: 3, 4, a fault (5 to 13), or 14. specs/Answers.antt gives each its number and values.
-#[derive(Drop)]
+#[derive(Clone, Copy)]
 pub enum Refusal {
     Descriptions(usize),
     Survey(usize),
@@ -35,7 +35,7 @@ pub enum Refusal {
 }
 
 // How many words of each table are used, or why there are none.
-#[derive(Drop)]
+#[derive(Clone, Copy)]
 pub enum LoadAnswer {
     Tables {
         entries: usize,
@@ -56,14 +56,14 @@ pub struct Loaded {
 }
 
 // The entries so far, or 6.
-#[derive(Drop)]
+#[derive(Clone, Copy)]
 pub enum Pushed {
     Entries { count: usize, next: usize },
     NoField,
 }
 
 // The fields of path registers with these ids.
-#[derive(Drop)]
+#[derive(Clone, Copy)]
 pub struct Kept {
     pub ids: u32,
     pub vs: u32,
@@ -71,7 +71,7 @@ pub struct Kept {
 }
 
 // An adapter's word, the entries so far and where its words end, or what refuses it.
-#[derive(Drop)]
+#[derive(Clone, Copy)]
 pub enum AdapterLoad {
     Adapter {
         word: u64,
@@ -82,7 +82,7 @@ pub enum AdapterLoad {
 }
 
 // The rows so far and where the next device stands, or what refuses them.
-#[derive(Drop)]
+#[derive(Clone, Copy)]
 pub enum AdaptersLoad {
     Rows {
         entries: usize,
@@ -93,14 +93,14 @@ pub enum AdaptersLoad {
 }
 
 // Whether a device's adapters fit it.
-#[derive(Drop)]
+#[derive(Clone, Copy)]
 pub enum Fit {
     Fits,
     Refused(Fault),
 }
 
 // A device's mark, the rows so far and where the next device stands, or what refuses it.
-#[derive(Drop)]
+#[derive(Clone, Copy)]
 pub enum DeviceLoad {
     Device {
         mark: u64,
@@ -112,7 +112,7 @@ pub enum DeviceLoad {
 }
 
 // How many words of each table are used, or the fault.
-#[derive(Drop)]
+#[derive(Clone, Copy)]
 pub enum Filled {
     Tables {
         entries: usize,

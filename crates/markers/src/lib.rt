@@ -8,7 +8,7 @@ use scan::Span;
 use util::{MAX_16, MAX_32, MAX_64, Number};
 
 // What a marker says.
-#[derive(Drop)]
+#[derive(Clone, Copy)]
 pub enum Mark {
     Router { domain: u32, route: u64 },
     Xdomain { domain: u32, route: u64 },

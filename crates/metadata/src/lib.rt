@@ -1,4 +1,6 @@
 // The calls on a list of description words: which group names a register, its name, its fields; and our own descriptions.
+#![tactic(auto)]
+
 ghost use Rattle.std.specs.Prelude.{◌≡◌};
 ghost use Rattle.layout.specs.Description.{descriptions_of};
 ghost use Rattle.metadata.specs.Calls.{describe_answer, described_outcome, at, name_answer, field_in, field_answer, field_outcome};
@@ -12,7 +14,7 @@ use fields::FieldFound;
 use naming::{Found, Sought};
 
 // The place of the group that names a register, or nameless, or refusal 3.
-#[derive(Drop)]
+#[derive(Clone, Copy)]
 pub enum Described {
     Group(usize),
     Nameless,
@@ -20,7 +22,7 @@ pub enum Described {
 }
 
 // A field's value, or refusal 3, or refusal 6.
-#[derive(Drop)]
+#[derive(Clone, Copy)]
 pub enum FieldValue {
     Value(u32),
     Refused(usize),

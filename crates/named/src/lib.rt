@@ -1,4 +1,6 @@
 // Registers of a survey by their names, and their fields and flags, over words that were checked before. Any words will do.
+#![tactic(auto)]
+
 ghost use Rattle.std.specs.Prelude.{◌≡◌, length};
 ghost use Rattle.std.proofs.Math.Option.{some};
 ghost use Rattle.layout.specs.Layout.{bits, low};
@@ -14,21 +16,21 @@ use fields::FieldFound;
 use naming::{Found, Sought};
 
 // A register by the place of its group in the survey, and its description by the place of its group in the descriptions.
-#[derive(Drop)]
+#[derive(Clone, Copy)]
 pub enum NamedFound {
     At { register: usize, group: usize },
     Nowhere,
 }
 
 // A field's value, or it is missing (6).
-#[derive(Drop)]
+#[derive(Clone, Copy)]
 pub enum FieldRead {
     Value(u32),
     Missing,
 }
 
 // A flag, or it is missing or isn't one bit (6).
-#[derive(Drop)]
+#[derive(Clone, Copy)]
 pub enum FlagRead {
     Set,
     Clear,
@@ -36,7 +38,7 @@ pub enum FlagRead {
 }
 
 // The least and the largest relative offset of the groups that have a name; least above largest where none has it.
-#[derive(Drop)]
+#[derive(Clone, Copy)]
 pub struct Offsets {
     pub least: u32,
     pub most: u32,

@@ -1,4 +1,6 @@
 // Which description names a register (module 4), over one list of description words.
+#![tactic(auto)]
+
 ghost use Rattle.std.specs.Prelude.{◌≡◌, ◌<◌, length};
 ghost use Rattle.layout.specs.Layout.{has_cap, has_vs, cap_id, vs_id, listed, kinds};
 ghost use Rattle.layout.specs.Description.{had, descriptions_of};
@@ -6,7 +8,7 @@ ghost use Rattle.naming.specs.Work.{candidate};
 ghost use Rattle.naming.specs.Naming.{kind_fits, cap_fits, vs_fits, naming, router_naming, place_of, found_place};
 
 // A register as it is looked up: its space, the adapter's kind (as usb4::type_number gives it), its relative offset and ids.
-#[derive(Drop)]
+#[derive(Clone, Copy)]
 pub struct Sought {
     pub space: u32,
     pub kind: u32,
@@ -16,7 +18,7 @@ pub struct Sought {
 }
 
 // The place of the only group that is left.
-#[derive(Drop)]
+#[derive(Clone, Copy)]
 pub enum Found {
     At(usize),
     Nowhere,

@@ -1,4 +1,6 @@
 // Whether the adapters of a device are numbered in order. Any words will do.
+#![tactic(auto)]
+
 ghost use Rattle.std.specs.Prelude.{◌%◌, ◌≡◌};
 ghost use Rattle.listing.specs.After.{after};
 ghost use Rattle.numbering.specs.Numbered.{numbered};

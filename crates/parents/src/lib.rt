@@ -15,7 +15,7 @@ use route::RouteFound;
 use tables::{AdapterFound, DeviceFacts, DeviceFound, RouterFound, Upstream};
 
 // The parent's place.
-#[derive(Drop)]
+#[derive(Clone, Copy)]
 pub enum ParentAnswer {
     Place(usize),
     None,

@@ -10,7 +10,7 @@ use tables::EntryAt;
 use walk::Walked;
 
 // A path with its number of hops, no path, the words needed (2), or another refusal.
-#[derive(Drop)]
+#[derive(Clone, Copy)]
 pub enum WalkAnswer {
     Path(usize),
     Absent,

@@ -14,7 +14,7 @@ use fields::FieldFound;
 use naming::{Found, Sought};
 
 // Where the fields of a path entry stand.
-#[derive(Drop)]
+#[derive(Clone, Copy)]
 pub struct EntryFields {
     pub valid: FieldFound,
     pub hop: FieldFound,

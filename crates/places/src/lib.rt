@@ -1,4 +1,6 @@
 // Where a device's group stands in survey words.
+#![tactic(auto)]
+
 ghost use Rattle.std.specs.Prelude.{◌≡◌, ◌≤◌, length};
 ghost use Rattle.survey.specs.Places.{group_at};
 ghost use Rattle.survey.specs.Work.{NextHead};

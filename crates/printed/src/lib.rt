@@ -4,7 +4,7 @@ ghost use Rattle.print.specs.Print.{Puts};
 ghost use Rattle.printed.specs.Printed.{parts_of, lines_of, tunnels_in, PrintDone};
 
 // How many bytes were written, or the bytes needed (2).
-#[derive(Drop)]
+#[derive(Clone, Copy)]
 pub enum Printed {
     Bytes(usize),
     Short(usize),

@@ -11,7 +11,7 @@ use report::Tried;
 use text::TextAnswer;
 
 // How many words of each table are used, and how many tunnels all adapters have; or the refusal that is printed.
-#[derive(Drop)]
+#[derive(Clone, Copy)]
 pub enum OpenAnswer {
     Tables {
         entries: usize,

@@ -17,7 +17,7 @@ use tables::{DeviceFacts, DeviceFound};
 use walk::Walked;
 
 // A path by its start, its number of hops, and the place and adapter by which it leaves; none; the ring's tunnel is dropped; or what refuses it.
-#[derive(Drop)]
+#[derive(Clone, Copy)]
 pub enum Received {
     Path {
         place: usize,
@@ -33,7 +33,7 @@ pub enum Received {
 }
 
 // HopIDs of an adapter at which a device's paths come in; a device that is passed over; the ring's tunnel is dropped; or what refuses it.
-#[derive(Drop)]
+#[derive(Clone, Copy)]
 pub enum LaneFound {
     At {
         place: usize,
@@ -63,14 +63,14 @@ pub struct SearchedFar {
 }
 
 // The same without the notes themselves.
-#[derive(Drop)]
+#[derive(Clone, Copy)]
 pub struct Sought {
     pub found: Received,
     pub noted: usize,
 }
 
 // The HopID to look at next; a path from a HopID that leaves by another than the ring; none is left; a path that leaves by the ring; or what refuses it.
-#[derive(Drop)]
+#[derive(Clone, Copy)]
 pub enum Step {
     On(u32),
     Past { hop: u16, last: u16 },

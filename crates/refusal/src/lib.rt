@@ -1,14 +1,14 @@
 // Where a fault was met: a device by its place in the survey and an adapter by its number; 0 for the router itself and an xdomain, and the missing number for a missing out adapter.
 #![tactic(auto)]
 
-#[derive(Drop)]
+#[derive(Clone, Copy)]
 pub struct Site {
     pub place: usize,
     pub adapter: u8,
 }
 
 // What loading a survey, a walk and a discovery refuse. specs/Refusal.antt gives each its number and values.
-#[derive(Drop)]
+#[derive(Clone, Copy)]
 pub enum Fault {
     // Registers were read, but a router has none or an adapter fewer than three.
     FewRegisters(Site),

@@ -8,7 +8,7 @@ use load::Refusal;
 use refusal::{Fault, Site};
 
 // A refusal's number, how many values come with it, and the values, 0 where there are fewer.
-#[derive(Drop)]
+#[derive(Clone, Copy)]
 pub struct Numbers {
     pub number: u8,
     pub values: usize,

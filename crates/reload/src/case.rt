@@ -7,7 +7,7 @@ ghost use Rattle.std.specs.Prelude.{◌≡◌, ◌≤◌, length};
 const NO_WORD: u64 = 4294967296;
 
 // Whether a line agrees, and how many words the set in hand has afterwards.
-#[derive(Drop)]
+#[derive(Clone, Copy)]
 pub struct Step {
     pub agrees: bool,
     pub held: usize,

@@ -13,7 +13,7 @@ use parents::ParentAnswer;
 use refusal::{Fault, Site};
 
 // An answer as the file has it: its first word, and those that follow it.
-#[derive(Drop)]
+#[derive(Clone, Copy)]
 struct Answer {
     head: u32,
     second: u32,

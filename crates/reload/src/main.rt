@@ -11,7 +11,7 @@ ghost use Rattle.std.specs.Prelude.{◌<◌, ◌≤◌, length};
 use libc::STDOUT_FILENO;
 
 // `first` is the line of the first case that differs, from 1 on; 0 where all agree.
-#[derive(Drop)]
+#[derive(Clone, Copy)]
 struct Totals {
     cases: usize,
     agree: usize,

@@ -7,7 +7,7 @@ use path::WalkAnswer;
 pub const FIRST: u32 = 0x0a000000;
 
 // How many words of the output an answer wrote; the word that says what it is, but for a path, whose first word does.
-#[derive(Drop)]
+#[derive(Clone, Copy)]
 pub struct Wrote {
     pub words: usize,
     pub head: u32,

@@ -6,7 +6,7 @@ ghost use Rattle.std.specs.Prelude.{◌≡◌, ◌≤◌, length};
 // More than any word: there is none, or what stands there is malformed.
 const NO_WORD: u64 = 4294967296;
 
-#[derive(Drop)]
+#[derive(Clone, Copy)]
 pub enum Input {
     Bytes(usize),
     Malformed,

@@ -14,7 +14,7 @@ use case::Input;
 use libc::STDOUT_FILENO;
 use names::Step;
 
-#[derive(Drop)]
+#[derive(Clone, Copy)]
 enum Kind {
     Line,
     Dump,
@@ -24,7 +24,7 @@ enum Kind {
 }
 
 // A file's cases: each by itself, routes, survey words, or questions about sets of descriptions.
-#[derive(Drop)]
+#[derive(Clone, Copy)]
 enum Cases {
     Each(Kind),
     Routes,
@@ -35,7 +35,7 @@ enum Cases {
 }
 
 // `first` is the line of the first case that differs, from 1 on; 0 where all agree.
-#[derive(Drop)]
+#[derive(Clone, Copy)]
 struct Totals {
     cases: usize,
     agree: usize,

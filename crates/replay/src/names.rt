@@ -8,14 +8,14 @@ use metadata::{Described, FieldValue};
 use naming::{Found, Sought};
 
 // Whether a line agrees, and how many words the set in hand has afterwards.
-#[derive(Drop)]
+#[derive(Clone, Copy)]
 pub struct Step {
     pub agrees: bool,
     pub held: usize,
 }
 
 // An answer as the file has it: 0 and a value, or 6 and 0.
-#[derive(Drop)]
+#[derive(Clone, Copy)]
 struct Said {
     refusal: u32,
     value: u32,

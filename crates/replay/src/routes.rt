@@ -4,7 +4,7 @@ use crate::names::number_at;
 use route::{AdapterFound, RouteFound};
 
 // A route as the file has it: 1 and its two words, or 0 and 0 and 0 for none.
-#[derive(Drop)]
+#[derive(Clone, Copy)]
 struct Shown {
     found: u32,
     low: u32,

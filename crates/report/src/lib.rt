@@ -8,14 +8,14 @@ use printed::Printed;
 use refusals::Numbers;
 
 // How many tunnels there are in all, or the first refusal.
-#[derive(Drop)]
+#[derive(Clone, Copy)]
 pub enum Tried {
     Tunnels(usize),
     Refused(Numbers),
 }
 
 // How many bytes an adapter's lines have, the bytes needed (2), or a refusal.
-#[derive(Drop)]
+#[derive(Clone, Copy)]
 pub enum Page {
     Bytes(usize),
     Short(usize),
@@ -23,7 +23,7 @@ pub enum Page {
 }
 
 // How many result words an adapter has, or a refusal.
-#[derive(Drop)]
+#[derive(Clone, Copy)]
 enum Answer {
     Words(usize),
     Refused(Numbers),

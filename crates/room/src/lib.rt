@@ -1,4 +1,6 @@
 // Whether there is room for a dump's records.
+#![tactic(auto)]
+
 ghost use Rattle.std.specs.Prelude.{◌≡◌, ◌*◌, ◌≤◌, [], ltb, length};
 ghost use Rattle.scan.specs.Scan.{lines};
 ghost use Rattle.room.specs.Records.{with_record, records_of, RoomFor};
@@ -7,7 +9,7 @@ ghost use Rattle.room.specs.Work.{line_start, starts_in};
 use register::Met;
 
 // There is room in both, or the words needed.
-#[derive(Drop)]
+#[derive(Clone, Copy)]
 pub enum Room {
     Enough,
     Short(usize),

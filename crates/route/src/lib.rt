@@ -6,14 +6,14 @@ ghost use Rattle.route.specs.Route.{depth_of, upstream_route, downstream_route, 
 use usb4::ROUTE_SHIFT;
 
 // A route, or none.
-#[derive(Drop)]
+#[derive(Clone, Copy)]
 pub enum RouteFound {
     Route(u64),
     None,
 }
 
 // An adapter number, or none.
-#[derive(Drop)]
+#[derive(Clone, Copy)]
 pub enum AdapterFound {
     Adapter(u8),
     None,

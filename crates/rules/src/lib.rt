@@ -1,4 +1,6 @@
 // The rules of survey words, group by group: the size of a group, and what may follow what.
+#![tactic(auto)]
+
 ghost use Rattle.std.specs.Prelude.{◌≡◌};
 ghost use Rattle.survey.specs.Words.{size_of};
 ghost use Rattle.survey.specs.Rules.{good_device, good_adapter, good_register, may_stand, step_of};

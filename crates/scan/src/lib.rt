@@ -4,7 +4,7 @@ ghost use Rattle.std.specs.Prelude.{◌≤◌, ◌<◌, ◌≡◌, length};
 ghost use Rattle.scan.specs.Scan.{is_space, is_not, is_line_feed, is_high, place_from, TokenAt};
 
 // A part of a text, from `start` up to `end`; empty where there is none.
-#[derive(Drop)]
+#[derive(Clone, Copy)]
 pub struct Span {
     pub start: usize,
     pub end: usize,

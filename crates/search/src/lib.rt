@@ -7,7 +7,7 @@ ghost use Rattle.tables.specs.Found.{EntrySought, AdapterSought};
 use tables::{AdapterFound, EntryAt};
 
 // A HopID with the out adapter and out HopID of its entry, or there is none.
-#[derive(Drop)]
+#[derive(Clone, Copy)]
 pub enum HopAt {
     Hop {
         hop: u16,
@@ -18,14 +18,14 @@ pub enum HopAt {
 }
 
 // An adapter's word, or there is none.
-#[derive(Drop)]
+#[derive(Clone, Copy)]
 pub enum WordAt {
     Word(u64),
     Nowhere,
 }
 
 // An adapter that is a lane, one of another kind, or there is none.
-#[derive(Drop)]
+#[derive(Clone, Copy)]
 pub enum LaneAt {
     Lane,
     Other,

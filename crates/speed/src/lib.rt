@@ -1,4 +1,6 @@
 // An adapter's link speed (module 5), from its registers in survey words. Any words will do.
+#![tactic(auto)]
+
 ghost use Rattle.std.specs.Prelude.{◌≡◌};
 ghost use Rattle.refusal.specs.declared.Site.{Site};
 ghost use Rattle.layout.specs.Description.{descriptions_of};

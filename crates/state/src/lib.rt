@@ -1,4 +1,6 @@
 // An adapter's state (module 5), from its registers in survey words. Any words will do.
+#![tactic(auto)]
+
 ghost use Rattle.std.specs.Prelude.{◌<◌, ◌≡◌};
 ghost use Rattle.std.proofs.Math.Option.{some};
 ghost use Rattle.refusal.specs.Outcome.{value, bind};
@@ -20,14 +22,14 @@ use refusal::{Fault, Site};
 use usb4::{AdapterType, Speed, State};
 
 // A state, or what refuses it: 6 or 8.
-#[derive(Drop)]
+#[derive(Clone, Copy)]
 pub enum StateFound {
     State(State),
     Refused(Fault),
 }
 
 // A link speed, or 6.
-#[derive(Drop)]
+#[derive(Clone, Copy)]
 pub enum SpeedFound {
     Speed(Speed),
     NoField,

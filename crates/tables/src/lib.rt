@@ -3,21 +3,21 @@ use adapter::Facts;
 use usb4::Kind;
 
 // Where an entry leads, or there is none.
-#[derive(Drop)]
+#[derive(Clone, Copy)]
 pub enum EntryAt {
     Entry { out_adapter: u8, out_hop: u16 },
     Missing,
 }
 
 // An adapter, or there is none.
-#[derive(Drop)]
+#[derive(Clone, Copy)]
 pub enum AdapterFound {
     Adapter(Facts),
     Nowhere,
 }
 
 // An upstream adapter's number, none, or 6.
-#[derive(Drop)]
+#[derive(Clone, Copy)]
 pub enum Upstream {
     Adapter(u8),
     None,
@@ -25,7 +25,7 @@ pub enum Upstream {
 }
 
 // What is known of a device.
-#[derive(Drop)]
+#[derive(Clone, Copy)]
 pub struct DeviceFacts {
     pub kind: Kind,
     pub usb4: bool,
@@ -35,14 +35,14 @@ pub struct DeviceFacts {
 }
 
 // A device, or there is none.
-#[derive(Drop)]
+#[derive(Clone, Copy)]
 pub enum DeviceFound {
     Device(DeviceFacts),
     Nowhere,
 }
 
 // A router's place, or there is none.
-#[derive(Drop)]
+#[derive(Clone, Copy)]
 pub enum RouterFound {
     Place(usize),
     Nowhere,

@@ -9,7 +9,7 @@ use grammar::{Checked, MOST_WORDS};
 use markers::Mark;
 
 // How many survey words a text makes, the words needed or the text's length where it is too long (2), the place of a byte above 127 (1), or the words made before a line that is wrong, 16,384 for too many (4).
-#[derive(Drop)]
+#[derive(Clone, Copy)]
 pub enum TextAnswer {
     Words(usize),
     Short(usize),

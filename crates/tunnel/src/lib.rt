@@ -12,7 +12,7 @@ use usb4::TunnelType;
 use walk::Walked;
 
 // Where a path starts, and its name.
-#[derive(Drop)]
+#[derive(Clone, Copy)]
 pub struct Start {
     pub place: usize,
     pub adapter: u8,
@@ -21,7 +21,7 @@ pub struct Start {
 }
 
 // A tunnel's type, closed mark, number of words and of paths, and where these start; none; or what refuses it.
-#[derive(Drop)]
+#[derive(Clone, Copy)]
 pub enum Planned {
     Tunnel {
         kind: TunnelType,

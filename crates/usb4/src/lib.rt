@@ -7,7 +7,7 @@ ghost use Rattle.usb4.specs.Numbers.{type_number, state_number, speed_number, de
 pub const ROUTE_SHIFT: u32 = 8;
 
 // Adapter types, in the order of the Rust's `Type` (debugfs.rs).
-#[derive(Drop)]
+#[derive(Clone, Copy)]
 pub enum AdapterType {
     Unknown,
     Inactive,
@@ -24,7 +24,7 @@ pub enum AdapterType {
 }
 
 // Adapter states, in the order of the Rust's `State`.
-#[derive(Drop)]
+#[derive(Clone, Copy)]
 pub enum State {
     Unknown,
     Disabled,
@@ -39,7 +39,7 @@ pub enum State {
 }
 
 // Link speeds, in the order of the Rust's `Speed`.
-#[derive(Drop)]
+#[derive(Clone, Copy)]
 pub enum Speed {
     Unknown,
     Gen2,
@@ -48,7 +48,7 @@ pub enum Speed {
 }
 
 // Device kinds, in the order of the Rust's `Kind` (device.rs).
-#[derive(Drop)]
+#[derive(Clone, Copy)]
 pub enum Kind {
     Domain,
     Router,
@@ -59,7 +59,7 @@ pub enum Kind {
 }
 
 // Tunnel types, in the order of the Rust's `Type` (tunnel.rs).
-#[derive(Drop)]
+#[derive(Clone, Copy)]
 pub enum TunnelType {
     Usb3,
     DisplayPort,

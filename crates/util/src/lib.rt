@@ -6,7 +6,7 @@ ghost use Rattle.util.specs.Number.{digit_of, after_prefix, after_plus, number_o
 ghost use Rattle.util.specs.Bits.{bits_of};
 
 // A number that was read, or none.
-#[derive(Drop)]
+#[derive(Clone, Copy)]
 pub enum Number {
     Value(u64),
     None,

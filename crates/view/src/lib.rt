@@ -1,18 +1,20 @@
 // A view of one device's group in survey words.
+#![tactic(auto)]
+
 ghost use Rattle.std.specs.Prelude.{◌≡◌};
 ghost use Rattle.view.specs.View.{group_place, group_words, stand_outcome};
 
 use survey::{Checked, Placed};
 
 // The survey's words, and one device's place.
-#[derive(Drop)]
+#[derive(Clone, Copy)]
 pub struct View<'a> {
     pub words: &'a [u32],
     pub place: usize,
 }
 
 // Where a device's group stands, from its start up to its end; where the words are refused (4); or that there is no such device (14).
-#[derive(Drop)]
+#[derive(Clone, Copy)]
 pub enum Stand {
     Group(usize, usize),
     Broken(usize),
@@ -51,7 +53,7 @@ pub fn stands<'a>(v: View<'a>) -> Stand
 }
 
 // The view's group beside the answer to where it stands.
-#[derive(Drop)]
+#[derive(Clone, Copy)]
 pub struct Shown<'a> {
     pub part: &'a [u32],
     pub stand: Stand,

@@ -7,7 +7,7 @@ use refusal::Fault;
 use tables::EntryAt;
 
 // A path's number of hops with its last hop's place, out adapter and out HopID; no path; or what refuses it.
-#[derive(Drop)]
+#[derive(Clone, Copy)]
 pub enum Walked {
     Path {
         hops: usize,

@@ -1,4 +1,6 @@
 // Whether survey words are well formed (4).
+#![tactic(auto)]
+
 ghost use Rattle.std.specs.Prelude.{◌≡◌};
 ghost use Rattle.survey.specs.Rules.{check_of, checked_outcome};
 

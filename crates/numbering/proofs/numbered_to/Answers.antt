@@ -1,0 +1,38 @@
+use mathlib.Core.Path.{refl}
+use Rattle.numbering.proofs.Laws as laws
+use Prim.Native.Nat.{◌-◌}
+use native.Mathlib.Omega.{arith}
+use Rattle.numbering.proofs.numbered_to.Goals as goal
+
+pub loop-i-init : goal.loop-i-init
+loop-i-init c = laws.numbering_first _ _ _ _ c.next_head-i.ensures
+
+pub offset_bounds-survey-i : goal.offset_bounds-survey-i
+offset_bounds-survey-i c = omega (arith, c.well_formed)
+
+pub bounds-survey-i : goal.bounds-survey-i
+bounds-survey-i c = omega (arith, c.loop-i-test.true)
+
+pub returns-then-w-ne4 : goal.returns-then-w-ne4
+returns-then-w-ne4 c = laws.numbered_device _ _ _ _ _ c.loop-i.invariant c.loop-i-test.true c.if-w-ne4.true
+
+pub returns-then-w-number : goal.returns-then-w-number
+returns-then-w-number c = laws.numbered_wrong _ _ _ _ _ c.loop-i.invariant c.loop-i-test.true c.if-w-ne4.false c.if-w-number.true
+
+pub returns-then-last-number : goal.returns-then-last-number
+returns-then-last-number c = laws.numbered_many _ _ _ _ _ c.loop-i.invariant c.loop-i-test.true c.if-w-ne4.false c.if-w-number.false c.if-last-number.true
+
+pub overflow_add-number : goal.overflow_add-number
+overflow_add-number c = omega (arith, c.loop-i.invariant.few)
+
+pub overflow_add-i : goal.overflow_add-i
+overflow_add-i c = omega (arith, c.well_formed, c.loop-i-test.true)
+
+pub loop-i-smaller : goal.loop-i-smaller
+loop-i-smaller c = laws.head_less _ _ _ c.next_head-i-in-loop-i.ensures _ c.loop-i-test.true refl
+
+pub loop-i-preserved : goal.loop-i-preserved
+loop-i-preserved c = laws.numbering_on _ _ _ _ _ c.loop-i.invariant c.loop-i-test.true c.if-w-ne4.false c.if-w-number.false c.if-last-number.false _ c.next_head-i-in-loop-i.ensures
+
+pub returns : goal.returns
+returns c = laws.numbered_past _ _ _ _ _ c.loop-i.invariant c.loop-i-test.false
