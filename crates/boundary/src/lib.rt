@@ -1,4 +1,6 @@
 // Where words that are not below a bound begin, in words that are in order. Any words will do: where they fall, it is some place where a word below the bound stands before one that isn't.
+#![tactic(auto)]
+
 ghost use Rattle.std.specs.Prelude.{◌≤◌, ◌<◌, length, get_or};
 ghost use Rattle.tables.specs.Found.{Boundary};
 

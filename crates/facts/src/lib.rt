@@ -1,4 +1,6 @@
 // An adapter by the word that holds it.
+#![tactic(auto)]
+
 ghost use Rattle.std.specs.Prelude.{◌/◌, ◌<◌, ◌≡◌};
 ghost use Rattle.refusal.specs.declared.Site.{Site};
 ghost use Rattle.state.specs.State.{speed_outcome};

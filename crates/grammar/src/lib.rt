@@ -1,4 +1,6 @@
 // Where markers and records of the program's text may stand, and how many survey words they make.
+#![tactic(auto)]
+
 ghost use Rattle.std.specs.Prelude.{◌≡◌, ◌≤◌, length};
 ghost use Rattle.markers.specs.Markers.{is_marker, marker_by};
 ghost use Rattle.grammar.specs.Grammar.{to_usb4, to_regs, to_adapter, to_paths, step_of, in_dump, marker_size, items_of, check_from, check_answer, check_outcome};

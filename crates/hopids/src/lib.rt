@@ -1,4 +1,6 @@
 // The least HopID of a kind of adapter, and the path registers that are looked at from it on (module 5).
+#![tactic(auto)]
+
 ghost use Rattle.std.specs.Prelude.{◌*◌, ◌%◌, ◌≡◌, ◌&&◌, leb, eqb};
 ghost use Rattle.adapter.specs.Adapter.{min_hop, hop_outcome};
 

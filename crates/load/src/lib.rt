@@ -237,7 +237,7 @@ fn push_entry(
     n: usize,
 ) -> Pushed
     requires { (i + 4 ≤ length survey.now) × (n < length entries.old) × (site.place < 65536) × (least < 65536) }
-    ensures result_after { (ds : List Description) (k : ℕ) → FieldsAt ds k least (register_at survey.now i) fields → pushed_rows site entries.new result ≡ bind (entries_from ds site k least (register_at survey.now i ∷ [])) (λ es. value (entries_in (take n entries.old) ++ map (owned site.place site.adapter) es)) }
+    ensures rows { (ds : List Description) (k : ℕ) → FieldsAt ds k least (register_at survey.now i) fields → pushed_rows site entries.new result ≡ bind (entries_from ds site k least (register_at survey.now i ∷ [])) (λ es. value (entries_in (take n entries.old) ++ map (owned site.place site.adapter) es)) }
     ensures one_more { OneMore n (i + 4) result }
 {
     let offset = layout::word_at(survey, i) % 65536;
@@ -278,8 +278,8 @@ fn push_from(
     n: usize,
 ) -> Pushed
     requires { (from ≤ length survey.now) × (4 * n ≤ from) × (length survey.now ≤ 4 * length entries.old) × (site.place < 65536) × (least < 65536) }
-    ensures result_after { pushed_rows site entries.new result ≡ bind (entries_from (descriptions_of descriptions.now) site kind least (after survey.now from).entries) (λ es. value (entries_in (take n entries.old) ++ map (owned site.place site.adapter) es)) }
-    ensures pushed_within { PushedWithin survey.now from result }
+    ensures rows { pushed_rows site entries.new result ≡ bind (entries_from (descriptions_of descriptions.now) site kind least (after survey.now from).entries) (λ es. value (entries_in (take n entries.old) ++ map (owned site.place site.adapter) es)) }
+    ensures within { PushedWithin survey.now from result }
 {
     let mut count = n;
     let mut at = from;
@@ -318,8 +318,8 @@ fn push_entries(
     n: usize,
 ) -> Pushed
     requires { (at < length survey.now) × (4 * n ≤ at) × (length survey.now ≤ 4 * length entries.old) × (site.place < 65536) }
-    ensures result_after { pushed_rows site entries.new result ≡ bind (entries_by (descriptions_of descriptions.now) site (type_number kind) (after survey.now (at + 1)).entries (min_hop kind)) (λ es. value (entries_in (take n entries.old) ++ map (owned site.place site.adapter) es)) }
-    ensures pushed_within { PushedWithin survey.now (at + 1) result }
+    ensures rows { pushed_rows site entries.new result ≡ bind (entries_by (descriptions_of descriptions.now) site (type_number kind) (after survey.now (at + 1)).entries (min_hop kind)) (λ es. value (entries_in (take n entries.old) ++ map (owned site.place site.adapter) es)) }
+    ensures within { PushedWithin survey.now (at + 1) result }
 {
     let HopFound::Hop(least) = hopids::min_hop(kind) else {
         return Pushed::Entries {
@@ -350,8 +350,8 @@ fn load_adapter(
     n: usize,
 ) -> AdapterLoad
     requires { (at < length survey.now) × (4 * n ≤ at) × (length survey.now ≤ 4 * length entries.old) × (place < 65536) }
-    ensures result_after { adapter_rows entries.new result ≡ and_then (value (rows_so_far (take n entries.old) [])) (load_adapter (descriptions_of descriptions.now) place usb4 (adapter_at survey.now at)) }
-    ensures adapter_within { AdapterWithin survey.now (at + 1) result }
+    ensures rows { adapter_rows entries.new result ≡ and_then (value (rows_so_far (take n entries.old) [])) (load_adapter (descriptions_of descriptions.now) place usb4 (adapter_at survey.now at)) }
+    ensures within { AdapterWithin survey.now (at + 1) result }
 {
     let facts = match adapter::decode(descriptions, survey, at, usb4, place) {
         Decoded::Refused(fault) => {
@@ -401,8 +401,8 @@ fn load_adapters(
     m: usize,
 ) -> AdaptersLoad
     requires { (from ≤ length survey.now) × (4 * n ≤ from) × (m ≤ from) × (length survey.now ≤ 4 * length entries.old) × (length survey.now ≤ length adapters.old) × (place < 65536) }
-    ensures result_after { adapters_rows entries.new adapters.new result ≡ and_then (value (rows_so_far (take n entries.old) (take m adapters.old))) (load_adapters (descriptions_of descriptions.now) place usb4 (after survey.now from).adapters) }
-    ensures adapters_within { AdaptersWithin survey.now from result }
+    ensures rows { adapters_rows entries.new adapters.new result ≡ and_then (value (rows_so_far (take n entries.old) (take m adapters.old))) (load_adapters (descriptions_of descriptions.now) place usb4 (after survey.now from).adapters) }
+    ensures within { AdaptersWithin survey.now from result }
 {
     let mut count = n;
     let mut size = m;
@@ -441,7 +441,7 @@ fn load_adapters(
 // ROUTER_CS_1 of the device whose head stands at a place, if it is a router whose registers were read.
 fn router_cs_1(descriptions: &[u32], survey: &[u32], at: usize) -> NamedFound
     requires { at + 4 ≤ length survey.now }
-    ensures result_value { named_at descriptions.now survey.now result ≡ router_cs1 (descriptions_of descriptions.now) (device_at survey.now at) }
+    ensures answer { named_at descriptions.now survey.now result ≡ router_cs1 (descriptions_of descriptions.now) (device_at survey.now at) }
     ensures within { Within (length survey.now) result }
 {
     let w = layout::word_at(survey, at);
@@ -533,8 +533,8 @@ fn load_device(
     m: usize,
 ) -> DeviceLoad
     requires { (at + 4 ≤ length survey.now) × (4 * n ≤ at) × (m ≤ at) × (length survey.now ≤ 4 * length entries.old) × (length survey.now ≤ length adapters.old) × (place < 65536) }
-    ensures result_after { device_load_rows place (device_at survey.now at).route entries.new adapters.new result ≡ and_then (value (rows_so_far (take n entries.old) (take m adapters.old))) (load_device (descriptions_of descriptions.now) place (device_at survey.now at)) }
-    ensures device_within { DeviceWithin survey.now (at + 4) result }
+    ensures rows { device_load_rows place (device_at survey.now at).route entries.new adapters.new result ≡ and_then (value (rows_so_far (take n entries.old) (take m adapters.old))) (load_device (descriptions_of descriptions.now) place (device_at survey.now at)) }
+    ensures within { DeviceWithin survey.now (at + 4) result }
 {
     let w = layout::word_at(survey, at);
     if w / 2 % 2 == 1 {
@@ -589,8 +589,8 @@ fn fill(
     marks: &mut [u64],
 ) -> Filled
     requires { (length survey.now ≤ 4 * length entries.old) × (length survey.now ≤ length adapters.old) × (length survey.now ≤ 4 * length routes.old) × (length routes.old ≡ length marks.old) × (length survey.now ≤ 262144) }
-    ensures result_after { filled_rows entries.new adapters.new routes.new marks.new result ≡ load_from (descriptions_of descriptions.now) 0 (devices_of survey.now) }
-    ensures filled_within { FilledWithin (length entries.old) (length adapters.old) (length routes.old) result }
+    ensures rows { filled_rows entries.new adapters.new routes.new marks.new result ≡ load_from (descriptions_of descriptions.now) 0 (devices_of survey.now) }
+    ensures within { FilledWithin (length entries.old) (length adapters.old) (length routes.old) result }
 {
     let mut n: usize = 0;
     let mut m: usize = 0;
@@ -639,8 +639,8 @@ fn load_into(
     marks: &mut [u64],
 ) -> LoadAnswer
     requires { (length entries.old ≡ 4096) × (length adapters.old ≡ 16384) × (length routes.old ≡ 4096) × (length marks.old ≡ 4096) }
-    ensures result_after { into_rows entries.new adapters.new routes.new marks.new result ≡ loaded descriptions.now survey.now }
-    ensures into_within { IntoWithin result }
+    ensures rows { into_rows entries.new adapters.new routes.new marks.new result ≡ loaded descriptions.now survey.now }
+    ensures within { IntoWithin result }
 {
     if let description::Checked::Refused(p) = description::check(descriptions) {
         return LoadAnswer::Refused(Refusal::Descriptions(p));
@@ -664,8 +664,8 @@ fn load_into(
 
 // A survey, loaded: every fault of loading is met here, in document 01's order, and nothing is looked up by name afterwards.
 pub fn load(descriptions: &[u32], survey: &[u32]) -> Loaded
-    ensures result_value { loaded_rows result ≡ loaded descriptions.now survey.now }
-    ensures usable_by { UsableBy result result.answer }
+    ensures answer { loaded_rows result ≡ loaded descriptions.now survey.now }
+    ensures usable { UsableBy result result.answer }
 {
     let mut entries = [0u64; 4096];
     let mut adapters = [0u64; 16384];

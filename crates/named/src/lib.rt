@@ -139,7 +139,7 @@ pub fn by_name(
     kind: u32,
     name: &[u8],
 ) -> NamedFound
-    ensures result_value { named_at descriptions.now survey.now result ≡ by_name (descriptions_of descriptions.now) space kind name.now (after survey.now from).registers }
+    ensures answer { named_at descriptions.now survey.now result ≡ by_name (descriptions_of descriptions.now) space kind name.now (after survey.now from).registers }
     ensures within { Within (length survey.now) result }
 {
     let o = offsets_named(descriptions, name);

@@ -1,4 +1,6 @@
 // Puts texts and numbers into a buffer, as far as there is room: called once to learn how long a text is, and once to write it.
+#![tactic(auto)]
+
 ghost use Rattle.std.specs.Prelude.{[], ◌∷◌};
 ghost use Rattle.print.specs.Print.{decimal, Puts};
 

@@ -16,8 +16,8 @@ const MOST: usize = 18446744073709551615;
 // The place of the head after the one at `i`.
 fn next_head(words: &[u32], i: usize) -> usize
     requires { i < length words.now }
-    ensures words_value { parts_of (drop i words.now) ≡ drop i words.now ∷ parts_of (drop result words.now) }
-    ensures lower_bound { i < result }
+    ensures parts { parts_of (drop i words.now) ≡ drop i words.now ∷ parts_of (drop result words.now) }
+    ensures onward { i < result }
 {
     if words[i] / 268435456 != 10 {
         return i + 1;

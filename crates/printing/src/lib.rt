@@ -1,4 +1,6 @@
 // The lines of result words, as document 01 prints them.
+#![tactic(auto)]
+
 ghost use Rattle.std.specs.Prelude.{◌≡◌, drop, get_or};
 ghost use Rattle.print.specs.Print.{Puts};
 ghost use Rattle.printing.specs.Lines.{type_name, path_name, tunnel_line, path_line, hop_line, line_of};

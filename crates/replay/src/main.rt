@@ -46,8 +46,8 @@ struct Totals {
 // The place after the line that starts at `start`.
 fn line_end(text: &[u8], start: usize) -> usize
     requires { start < length text.now }
-    ensures upper_bound { result ≤ length text.now }
-    ensures lower_bound { start < result }
+    ensures within { result ≤ length text.now }
+    ensures onward { start < result }
 {
     let end = scan::line_end(text, start);
     if end < text.len() {

@@ -1,4 +1,6 @@
 // Searches in the tables of devices, by place or by domain and route. Any words will do.
+#![tactic(auto)]
+
 ghost use Rattle.std.specs.Prelude.{ℕ, ◌≡◌};
 ghost use Rattle.tables.specs.Rows.{device_in, router_from};
 ghost use Rattle.tables.specs.Packed.{upstream_by, device_word, devices_in};

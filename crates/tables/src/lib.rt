@@ -1,4 +1,6 @@
 // What is found in the tables that a survey is loaded to; `search` and `routers` find it.
+#![tactic(auto)]
+
 use adapter::Facts;
 use usb4::Kind;
 

@@ -1,14 +1,11 @@
-use borrow.Author.Tests.{not-true, not-false}
 use Rattle.metadata.proofs.Calls as calls
-use mathlib.Core.Bool.{not}
-use mathlib.Core.Path.{ap}
 use Rattle.metadata.proofs.field_at.Goals as goal
 
 pub returns-then-not-stands_at : goal.returns-then-not-stands_at
-returns-then-not-stands_at c = calls.field_absent _ _ _ c.stands_at.ensures _ _ (not-true _ (ap (λ b. not b) c.if-not-stands_at.true))
+returns-then-not-stands_at c = calls.field_absent _ _ _ c.stands_at.ensures _ _ c.if-not-stands_at.true
 
 pub returns-in_default : goal.returns-in_default
-returns-in_default c = calls.field_lacks _ _ _ c.stands_at.ensures _ _ (not-false _ (ap (λ b. not b) c.if-not-stands_at.false)) _ c.find_field.ensures c.in_default.is
+returns-in_default c = calls.field_lacks _ _ _ c.stands_at.ensures _ _ c.if-not-stands_at.false _ c.find_field.ensures c.in_default.is
 
 pub returns : goal.returns
-returns c = calls.field_has _ _ _ c.stands_at.ensures _ _ (not-false _ (ap (λ b. not b) c.if-not-stands_at.false)) _ c.find_field.ensures _ _ _ c.in-Bits.is c.bits.ensures
+returns c = calls.field_has _ _ _ c.stands_at.ensures _ _ c.if-not-stands_at.false _ c.find_field.ensures _ _ _ c.in-Bits.is c.bits.ensures

@@ -14,15 +14,15 @@ returns-then-kind-eq3 c = simp (eq-eqb _ _ c.if-kind-eq3.true, sym c.good_device
 
 pub returns-then-not-u : goal.returns-then-not-u
 unfolding step_of
-returns-then-not-u c = simp (ne_eqb _ _ c.if-kind-eq3.false, eq-eqb _ _ c.if-kind-eq4.true, not-true c.args.u.begun (ap (λ b. not b) c.if-not-u.true))
+returns-then-not-u c = simp (ne_eqb _ _ c.if-kind-eq3.false, eq-eqb _ _ c.if-kind-eq4.true, not-true c.args.u.begun c.if-not-u.true)
 
 pub returns-then-not-good_adapter : goal.returns-then-not-good_adapter
 unfolding step_of
-returns-then-not-good_adapter c = simp (ne_eqb _ _ c.if-kind-eq3.false, eq-eqb _ _ c.if-kind-eq4.true, not-false c.args.u.begun (ap (λ b. not b) c.if-not-u.false), sym c.good_adapter.ensures ∙ not-true _ (ap (λ b. not b) c.if-not-good_adapter.true))
+returns-then-not-good_adapter c = simp (ne_eqb _ _ c.if-kind-eq3.false, eq-eqb _ _ c.if-kind-eq4.true, not-false c.args.u.begun c.if-not-u.false, sym c.good_adapter.ensures ∙ not-true _ (ap (λ b. not b) c.if-not-good_adapter.true))
 
 pub returns-then-kind-eq4 : goal.returns-then-kind-eq4
 unfolding step_of after_adapter
-returns-then-kind-eq4 c = simp (ne_eqb _ _ c.if-kind-eq3.false, eq-eqb _ _ c.if-kind-eq4.true, not-false c.args.u.begun (ap (λ b. not b) c.if-not-u.false), sym c.good_adapter.ensures ∙ not-false _ (ap (λ b. not b) c.if-not-good_adapter.false))
+returns-then-kind-eq4 c = simp (ne_eqb _ _ c.if-kind-eq3.false, eq-eqb _ _ c.if-kind-eq4.true, not-false c.args.u.begun c.if-not-u.false, sym c.good_adapter.ensures ∙ not-false _ (ap (λ b. not b) c.if-not-good_adapter.false))
 
 pub returns-then-kind-ne5 : goal.returns-then-kind-ne5
 unfolding step_of
