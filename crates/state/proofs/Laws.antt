@@ -293,21 +293,21 @@ module _ (ds : List Description) (s : Site) (k : ℕ) (rs : List Register) (cap 
       abbrev by_port : Outcome Bool → Outcome State
       by_port o = bind o (λ b. cond b (value state.Enabled) (ports ds s k rs cap (suc p) (count - (p + 1))))
 
-      by_flag : by_port (sited s (flag_read r)) ≡ left
+      by_flag_lem : by_port (sited s (flag_read r)) ≡ left
       unfolding ports
-      by_flag = ap (λ o. by_port o) e ∙ sym (ap (λ b. cond b (refusal_of (GenTOffset s)) (by_port one_port)) (le-ltb 65535 (cap + 3 + 2 * p) h)) ∙ more
+      by_flag_lem = ap (λ o. by_port o) e ∙ sym (ap (λ b. cond b (refusal_of (GenTOffset s)) (by_port one_port)) (le-ltb 65535 (cap + 3 + 2 * p) h)) ∙ more
 
       pub ports_missing : r ≡ flag.Missing → state_outcome (state-found.Refused (NoField s)) ≡ left
       unfolding state_outcome refusal_of bind sited flag_read
-      ports_missing m = ap (λ x. by_port (sited s (flag_read x))) (sym m) ∙ by_flag
+      ports_missing m = ap (λ x. by_port (sited s (flag_read x))) (sym m) ∙ by_flag_lem
 
       pub ports_set : r ≡ flag.Set → state_outcome (state-found.State state.Enabled) ≡ left
       unfolding state_outcome bind sited flag_read
-      ports_set m = ap (λ x. by_port (sited s (flag_read x))) (sym m) ∙ by_flag
+      ports_set m = ap (λ x. by_port (sited s (flag_read x))) (sym m) ∙ by_flag_lem
 
       pub ports_clear : r ≡ flag.Clear → left ≡ ports ds s k rs cap (p + 1) (count - (p + 1))
       unfolding bind sited flag_read
-      ports_clear m = sym (ap (λ x. by_port (sited s (flag_read x))) (sym m) ∙ by_flag) ∙ ap (λ x. ports ds s k rs cap x (count - (p + 1))) (sym (add-one p))
+      ports_clear m = sym (ap (λ x. by_port (sited s (flag_read x))) (sym m) ∙ by_flag_lem) ∙ ap (λ x. ports ds s k rs cap x (count - (p + 1))) (sym (add-one p))
 
 -- a speed, by kind, state and register
 module _ (ds : List Description) (k : AdapterType) (st : State) (rs : List Register) (s : Site) (number : ℕ) (e : number ≡ type_number k) where
