@@ -1,4 +1,6 @@
 // Searches in the tables of path entries and adapters, by key. Any words will do; where a table's keys fall, what is found is free.
+#![tactic(auto)]
+
 ghost use Rattle.search.specs.Ahead.{HopAhead};
 ghost use Rattle.search.specs.Lanes.{LaneSought};
 ghost use Rattle.search.specs.Work.{WordSought};
