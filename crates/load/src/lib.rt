@@ -1,4 +1,6 @@
 // Loading a survey: document 01's order of refusals 3 to 9, and the tables that every call on a survey goes on with.
+#![tactic(auto)]
+
 ghost use Rattle.std.specs.Prelude.{ℕ, ◌+◌, ◌*◌, ◌≤◌, ◌<◌, ◌≡◌, eqb, List, [], ◌∷◌, map, ◌++◌, length, take};
 ghost use Rattle.refusal.specs.Outcome.{value, bind};
 ghost use Rattle.refusal.specs.declared.Site.{Site};

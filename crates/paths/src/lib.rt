@@ -1,4 +1,6 @@
 // Path entries (module 5): what a path register says. Any words will do.
+#![tactic(auto)]
+
 ghost use Rattle.std.specs.Prelude.{◌≡◌};
 ghost use Rattle.refusal.specs.declared.Site.{Site};
 ghost use Rattle.layout.specs.Layout.{low};
