@@ -8,4 +8,4 @@ returns-in-Nowhere c = λ s l. stood_nowhere _ _ _ _ c.find_lane.ensures s l c.i
 
 pub returns : goal.returns
 unfolding next_outcome
-returns c = λ s l. let w = there_or_not _ c.in_default.keys2 in stood _ _ _ _ c.find_lane.ensures s l w.0 w.1
+returns c = λ s l. let w = there_or_not _ c.in_default.not-Nowhere in stood _ _ _ _ c.find_lane.ensures s l w.0 w.1
