@@ -1,4 +1,6 @@
 // Discovery (module 7, `Tunnel::discover`) on the tables that a survey is loaded to: a tally first, and with it a draft of the words; then the words.
+#![tactic(auto)]
+
 ghost use Rattle.std.specs.Prelude.{ℕ, ◌+◌, ◌*◌, ◌-◌, ◌≤◌, ◌<◌, ◌≡◌, true, cond, List, length, get_or};
 ghost use Rattle.usb4.specs.Numbers.{tunnel_number};
 ghost use Rattle.adapter.specs.Adapter.{facts_row, adapter_site, max_hop_outcome};

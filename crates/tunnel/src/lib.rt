@@ -1,4 +1,6 @@
 // Tunnels of an adapter (module 7, `discover_usb3`, `discover_dp`, `discover_pcie`, `discover_one_dma`), as plans, on the tables that a survey is loaded to.
+#![tactic(auto)]
+
 ghost use Rattle.std.specs.Prelude.{ℕ, ◌+◌, ◌*◌, ◌≤◌, ◌<◌, ◌≡◌, ◌&&◌, List, eqb};
 ghost use Rattle.receive.specs.Receive.{at};
 ghost use Rattle.receive.specs.Tables.{Receives};

@@ -1,0 +1,12 @@
+use Rattle.tunnel.proofs.Planning.{aux_refused, aux_absent, aux_path}
+use Rattle.tunnel.proofs.aux.Goals as goal
+
+pub returns-in-Refused : goal.returns-in-Refused
+returns-in-Refused c = aux_refused _ _ _ _ _ _ _ _ c.tally.ensures _ c.in-Refused.is
+
+pub returns-in-Absent : goal.returns-in-Absent
+returns-in-Absent c = aux_absent _ _ _ _ _ _ _ _ c.tally.ensures c.in-Absent.is
+
+pub returns-in-Path : goal.returns-in-Path
+returns-in-Path c = aux_path _ _ _ _ _ _ _ _ c.tally.ensures _ _ _ _ _ _ _ _ _ c.in-Path.is c.path_words.ensures
+    c.starting.ensures c.starting-in-Path.ensures c.starting-in-Path-2.ensures c.finish.ensures
