@@ -1,6 +1,6 @@
 /*
- * A proved reader of USB4 tunnel dumps, for C and C++. Link libexport.a (`rt staticlib export`). docs/01-scope.md, called document 01 here,
- * decides what each call answers. README.md beside this file says what the boundary does not check.
+ * A proved reader of USB4 tunnel dumps, for C and C++. Link libexport.a, which `rt lib` in crates/export builds. docs/01-scope.md, called
+ * document 01 here, decides what each call answers. README.md beside this file says what the boundary does not check.
  *
  * A slice is a pointer and its number of elements. The last parameter of every call is its answer, eight words that the call overwrites:
  *

@@ -131,7 +131,7 @@ def distinct(items):
 def built():
     """Builds the asker over the static library."""
     target = HERE / "target"
-    library = HERE.parent / "target" / "staticlib" / "libexport.a"
+    library = HERE.parent / "crates" / "export" / "out" / "libexport.a"
     run = subprocess.run(["cc", "-std=gnu11", "-O2", "-Wall", "-Wextra", "-I", HERE.parent / "bindings", "-o", target / "asker", HERE / "asker.c",
                           library], check=False)
     if run.returncode != 0:

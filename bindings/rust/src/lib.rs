@@ -1,4 +1,4 @@
-//! A proved reader of USB4 tunnel dumps: safe functions over libexport.a, which `rt staticlib export` builds.
+//! A proved reader of USB4 tunnel dumps: safe functions over libexport.a, which `rt lib` in crates/export builds.
 //!
 //! docs/01-scope.md decides what each call answers. A call gives a result, `None` for none or absent, or a [`Refusal`] with its number and
 //! values; it takes any bytes, words and numbers, and after a refusal every lent buffer is as it was. The crate allocates nothing.
