@@ -1,6 +1,6 @@
 use mathlib.Core.Path.{sym, ◌∙◌, ap}
 use mathlib.Core.Bool.{false≢true}
-use Rattle.receive.specs.Tables.{received_outcome}
+use Rattle.receive.specs.Tables.{Said.none, Said.dropped, received_outcome}
 use Rattle.discovery.proofs.Quiet.{quiet}
 use Rattle.discovery.proofs.is_quiet.Goals as goal
 
