@@ -1,4 +1,6 @@
 // The call for the tunnels of an adapter of a survey.
+#![tactic(auto)]
+
 ghost use Rattle.discoveries.specs.Calls.{DiscoverDone};
 
 use discovery::TunnelsAnswer;
