@@ -1,4 +1,6 @@
 // The calls on one adapter of a survey. Each loads the survey, and answers from the tables.
+#![tactic(auto)]
+
 ghost use Rattle.std.specs.Prelude.{◌≡◌};
 ghost use Rattle.state.specs.State.{is_enabled};
 ghost use Rattle.adapters.specs.Calls.{row_answer, adapter_answer, speed_answer, max_hop_answer, adapter_outcome, speed_outcome, max_hop_outcome};

@@ -1,4 +1,6 @@
 // The call for the capability part of an adapter: the adapter's head is found in the survey, once the survey is loaded.
+#![tactic(auto)]
+
 ghost use Rattle.std.specs.Prelude.{◌≡◌};
 ghost use Rattle.survey.specs.Devices.{devices_of};
 ghost use Rattle.listing.specs.After.{after};

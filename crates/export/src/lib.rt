@@ -1,9 +1,11 @@
 // The calls that programs in other languages link: numbers and slices in, eight words of answer out (answers/specs/Said.antt). bindings/ has the C header and what the boundary
 // does not check.
+#![tactic(auto)]
+
 ghost use Rattle.std.specs.Prelude.{◌≡◌};
 ghost use Rattle.register.specs.Line.{line_answer};
 ghost use Rattle.description.specs.Rules.{check_of};
-ghost use Rattle.survey.specs.Rules.{check_of as surveyCheck};
+ghost use Rattle.survey.specs.Rules.{check_of as survey_check};
 ghost use Rattle.metadata.specs.Calls.{describe_answer, field_answer};
 ghost use Rattle.acceptance.specs.Accepted.{accepted_answer};
 ghost use Rattle.adapters.specs.Calls.{adapter_answer, speed_answer, max_hop_answer};
@@ -60,7 +62,7 @@ pub extern "C" fn tunnels_check_descriptions(words: &[u32], answer: &mut [u64; 8
 // Whether survey words are well formed, or 4.
 #[unsafe(no_mangle)]
 pub extern "C" fn tunnels_check_survey(words: &[u32], answer: &mut [u64; 8])
-    ensures { answer.new ≡ said (always bare (surveyCheck words.now)) }
+    ensures { answer.new ≡ said (always bare (survey_check words.now)) }
 {
     let a = lookups::survey(wellformed::check(words));
     *answer = a;

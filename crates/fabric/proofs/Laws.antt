@@ -136,11 +136,11 @@ module _ (t : List ℕ) (q n : ℕ) (r : LaneAt) (h : LaneSought t q n r) (s : S
   stood b e = ap (λ (o : Option AdapterRow). value (stand_by q n o)) (lane_some (adapter_in (adapters_in t) q n) b (sym e ∙ h.first l s)).1
 
 -- what is found, but for an adapter that isn't there
-pub there_or_not : (r : LaneAt) → OneOf (0 ∷ 1 ∷ []) (tag_of IsLane-type.the_type r) → (b : Bool) × (lane_found r ≡ some b)
+pub there_or_not : (r : LaneAt) → (r ≡ lane.Nowhere → ⊥) → (b : Bool) × (lane_found r ≡ some b)
 unfolding lane_found
 there_or_not lane.Lane k = (true, refl)
 there_or_not lane.Other k = (false, refl)
-there_or_not lane.Nowhere k = absurd (⊎_elim (λ y. omega arith) (λ y. omega arith) k)
+there_or_not lane.Nowhere k = absurd (k refl)
 
 -- to the router at a route: none there, its device lost, or there
 module _ (x : Rows) (d : DeviceRow) (r : ℕ) (f : ℕ → DeviceRow → Outcome Way) where

@@ -1,4 +1,6 @@
 // Where a hop leads, on the tables that a survey is loaded to.
+#![tactic(auto)]
+
 ghost use Rattle.std.specs.Prelude.{ℕ, ◌<◌, ◌≡◌};
 ghost use Rattle.std.proofs.Math.Option.{some};
 ghost use Rattle.refusal.specs.Outcome.{value, bind};

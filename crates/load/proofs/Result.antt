@@ -52,8 +52,8 @@ pub record Sizes (l : Loaded) : Type 0 where
 
 pub sizes : (l : Loaded) (vs : List Val) → Is (struct.row loaded-type.the_type) l vs → Sizes l
 sizes l vs o = record {
-  entries = sym (length-map l.entries (λ v. v)) ∙ o.1.1.1.0.1.0.1;
-  adapters = sym (length-map l.adapters (λ v. v)) ∙ o.1.1.1.1.0.1.0.1;
-  routes = sym (length-map l.routes (λ v. v)) ∙ o.1.1.1.1.1.0.1.0.1;
-  marks = sym (length-map l.marks (λ v. v)) ∙ o.1.1.1.1.1.1.0.1.0.1;
+  entries = o.1.1.1.0.1.0.1;
+  adapters = o.1.1.1.1.0.1.0.1;
+  routes = o.1.1.1.1.1.0.1.0.1;
+  marks = o.1.1.1.1.1.1.0.1.0.1;
 }

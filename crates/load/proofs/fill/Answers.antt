@@ -60,10 +60,10 @@ unfolding filled_rows FilledWithin
 returns-in-Refused c = record { rows = filling_fault _ _ _ _ _ _ _ _ _ _ _ c.loop-i.invariant.4 c.loop-i-test.true c.if-survey-i-eq4.false _ _ _ c.load_device.ensures.rows _ c.in-Refused.is; within = omega arith }
 
 pub overflow_mul-routes : goal.overflow_mul-routes
-overflow_mul-routes c = omega (arith, c.word_at-high.type-inv)
+overflow_mul-routes c = omega (arith, c.word_at-high.type_inv)
 
 pub overflow_add-routes : goal.overflow_add-routes
-overflow_add-routes c = omega (arith, c.word_at-low.type-inv, c.word_at-high.type-inv)
+overflow_add-routes c = omega (arith, c.word_at-low.type_inv, c.word_at-high.type_inv)
 
 pub offset_bounds-routes-place : goal.offset_bounds-routes-place
 offset_bounds-routes-place c = omega (arith, c.requires.4, c.loop-i.invariant.4.places, c.loop-i-test.true)
@@ -111,5 +111,5 @@ pub shape_of-marks : goal.shape_of-marks
 shape_of-marks c = c.loop-i.invariant.3
 
 pub returns : goal.returns
-returns c = let r = let p = c.requires in
-    (filling_end _ _ _ _ _ _ _ _ _ _ _ c.loop-i.invariant.4 c.loop-i-test.false, filling_within _ _ _ _ _ _ _ _ _ _ _ c.loop-i.invariant.4 _ _ _ p.0 p.1 p.2) in record { rows = r.0; within = r.1 }
+returns c = let p = c.requires in
+    record { rows = filling_end _ _ _ _ _ _ _ _ _ _ _ c.loop-i.invariant.4 c.loop-i-test.false; within = filling_within _ _ _ _ _ _ _ _ _ _ _ c.loop-i.invariant.4 _ _ _ p.0 p.1 p.2 }

@@ -1,11 +1,11 @@
 use lib.ListN.{take}
 use Rattle.listing.specs.After.{adapter_at}
 use Rattle.load.proofs.One as laws
-use mathlib.Core.Logic.{⊎_elim}
 use native.Mathlib.Omega.{arith}
 use mathlib.Core.Bool.{not}
 use mathlib.Core.Path.{ap}
 use Rattle.load.proofs.load_adapter.Goals as goal
+use Rattle.load.proofs.load_adapter.Goals.{then-word_at-eq2+else-not-lane1, else-word_at-eq2}
 
 pub returns-in-Refused : goal.returns-in-Refused
 returns-in-Refused c = let r = laws.refuses _ _ _ _ _ (laws.decode_refused _ _ _ _ _ c.decode.ensures _ c.in-Refused.is _) in record { rows = r.0; within = r.1 }
@@ -15,19 +15,17 @@ returns-then-not-lane1 c = let r = laws.refuses _ _ _ _ _ (laws.dump_missed _ _ 
 
 pub returns-in_default : goal.returns-in_default
 unfolding adapter_at
-returns-in_default c = let r = let k = c.in-Adapter.is in
+returns-in_default c = let k = c.in-Adapter.is in
     let d = c.decode.ensures in
     let w = laws.its_paths c.args.survey.now c.args.at _ c.word_at.ensures in
-    let l = ⊎_elim (λ x. laws.dump_lane1 _ _ _ _ _ d _ k _ w x.1.left) (λ x. laws.dump_other _ _ _ _ _ d _ k _ w x.left) c.if-word_at-eq2.branch in
-    laws.refuses _ _ _ _ _ (laws.entries_refused _ _ _ _ _ d _ k l (take c.args.n c.args.entries.now) _ _ c.push_entries.ensures.rows c.in_default.is _) in record { rows = r.0; within = r.1 }
+    let r = laws.refuses _ _ _ _ _ (laws.entries_refused _ _ _ _ _ d _ k (elim c.if-word_at-eq2.branch [ then-word_at-eq2+else-not-lane1 x ↦ laws.dump_lane1 _ _ _ _ _ d _ k _ w (ap (λ b. not b) x.if-not-lane1.false) | else-word_at-eq2 x ↦ laws.dump_other _ _ _ _ _ d _ k _ w x.if-word_at-eq2.false ]) (take c.args.n c.args.entries.now) _ _ c.push_entries.ensures.rows c.in_default.is _) in record { rows = r.0; within = r.1 }
 
 pub adapter_word-requires : goal.adapter_word-requires
 adapter_word-requires c = (omega (arith, c.requires), laws.facts_fit _ _ _ _ _ c.decode.ensures _ c.in-Adapter.is)
 
 pub returns : goal.returns
 unfolding adapter_at
-returns c = let r = let k = c.in-Adapter.is in
+returns c = let k = c.in-Adapter.is in
     let d = c.decode.ensures in
     let w = laws.its_paths c.args.survey.now c.args.at _ c.word_at.ensures in
-    let l = ⊎_elim (λ x. laws.dump_lane1 _ _ _ _ _ d _ k _ w x.1.left) (λ x. laws.dump_other _ _ _ _ _ d _ k _ w x.left) c.if-word_at-eq2.branch in
-    (laws.entries_loaded _ _ _ _ _ d _ k l _ _ _ c.push_entries.ensures.rows _ _ c.in-Entries.is _ c.adapter_word.ensures, laws.its_end _ _ _ c.push_entries.ensures.within _ _ c.in-Entries.is _) in record { rows = r.0; within = r.1 }
+    record { rows = laws.entries_loaded _ _ _ _ _ d _ k (elim c.if-word_at-eq2.branch [ then-word_at-eq2+else-not-lane1 x ↦ laws.dump_lane1 _ _ _ _ _ d _ k _ w (ap (λ b. not b) x.if-not-lane1.false) | else-word_at-eq2 x ↦ laws.dump_other _ _ _ _ _ d _ k _ w x.if-word_at-eq2.false ]) _ _ _ c.push_entries.ensures.rows _ _ c.in-Entries.is _ c.adapter_word.ensures; within = laws.its_end _ _ _ c.push_entries.ensures.within _ _ c.in-Entries.is _ }

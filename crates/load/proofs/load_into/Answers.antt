@@ -24,5 +24,5 @@ returns-in-Refused-fill c = record { rows = into_fault _ _ _ _ _ _ (ap (λ x. de
 
 pub returns-in-Tables : goal.returns-in-Tables
 unfolding description.checked_outcome survey.checked_outcome
-returns-in-Tables c = let r = let p = c.requires in
-    (into_tables _ _ _ _ _ _ (ap (λ x. description.checked_outcome x) (sym c.in_default.is) ∙ c.check.ensures) (ap (λ x. survey.checked_outcome x) (sym c.in_default-check.is) ∙ c.check-2.ensures) _ c.fill.ensures.rows _ _ _ c.in-Tables.is, within_tables _ _ _ _ _ _ _ c.fill.ensures.within c.in-Tables.is p.0 p.1 p.2) in record { rows = r.0; within = r.1 }
+returns-in-Tables c = let p = c.requires in
+    record { rows = into_tables _ _ _ _ _ _ (ap (λ x. description.checked_outcome x) (sym c.in_default.is) ∙ c.check.ensures) (ap (λ x. survey.checked_outcome x) (sym c.in_default-check.is) ∙ c.check-2.ensures) _ c.fill.ensures.rows _ _ _ c.in-Tables.is; within = within_tables _ _ _ _ _ _ _ c.fill.ensures.within c.in-Tables.is p.0 p.1 p.2 }
