@@ -1,4 +1,6 @@
 // The calls on one device of a survey. Each loads the survey, and answers from the tables.
+#![tactic(auto)]
+
 ghost use Rattle.std.specs.Prelude.{◌≡◌};
 ghost use Rattle.devices.specs.Calls.{device_answer, upstream_answer, device_outcome, upstream_outcome};
 ghost use Rattle.devices.specs.Work.{read_device, read_outcome};

@@ -1,4 +1,6 @@
 // The routes of a router's adapters, by the facts of both.
+#![tactic(auto)]
+
 ghost use Rattle.std.specs.Prelude.{◌≡◌};
 ghost use Rattle.adapter.specs.Adapter.{facts_row};
 ghost use Rattle.tables.specs.Found.{device_row};
