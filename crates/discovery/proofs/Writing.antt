@@ -6,8 +6,6 @@ use mathlib.Core.Bool.{Bool, true, false, cond}
 use mathlib.Core.List.{List, [], ◌∷◌, ◌++◌, map, append_assoc, append-nil, Option-to_list}
 use mathlib.Core.Option.{Option, none, some}
 use native.Mathlib.Omega.{arith}
-use denote.Enum.Declared.{tag_of}
-use types.Run.{OneOf}
 use lib.ListN.{length, take, drop, set, length-map, length-append, length-drop, length-set, take-append-drop, drop_of_length-le}
 use lib.Seq.{length-take-le, take_all, take_at, drop_at, drop-drop, set_split}
 use borrow.Rule.Slice.PartMut.{put_mid}
@@ -19,7 +17,6 @@ use Rattle.walk.specs.Walking.{Stand}
 use Rattle.walk.specs.Tables.{rows_of, Tabled}
 use Rattle.path.specs.Words.{path_words, words_needed, with_path}
 use Rattle.path.specs.Put.{Sized, WalkPut}
-use Rattle.tunnel.specs.contracts.Planned as planned-type
 use Rattle.path.proofs.Writing.{refused_as_lem}
 use Rattle.tunnel.specs.Tunnels.{Path, Tunnel}
 use Rattle.tunnel.specs.Words.{closed, paths_words, tunnel_word, tunnel_words, tunnels_words}
@@ -123,12 +120,12 @@ module _ (en ad ro ma : List ℕ) where
       go none e fits = wrote_nothing at out
       go (some t) e fits = absurd (never t e (omega (arith, length-append (tunnel_words t) [])))
 
-  pub plan_none : (plan : Planned) (at : ℕ) (out : List ℕ) → at ≤ length out → OneOf (1 ∷ 2 ∷ []) (tag_of planned-type.the_type plan) → PlanPut en ad ro ma plan at out at out
+  pub plan_none : (plan : Planned) (at : ℕ) (out : List ℕ) → at ≤ length out → ((k : TunnelType) (c : Bool) (w n : ℕ) (a b d : Start) → plan ≡ planned.Tunnel k c w n a b d → ⊥) → PlanPut en ad ro ma plan at out at out
   unfolding planned_outcome
   plan_none plan at out room k = plan_not_put plan at out room (λ t e l. go plan k (plan_of t) e)
     where
-      go : (q : Planned) → OneOf (1 ∷ 2 ∷ []) (tag_of planned-type.the_type q) → (t : Plan) → planned_outcome q ≡ value (some t) → ⊥
-      go (planned.Tunnel k c w n a b d) o t e = ⊎_elim (λ y. omega arith) (λ y. omega arith) o
+      go : (q : Planned) → ((k : TunnelType) (c : Bool) (w n : ℕ) (a b d : Start) → q ≡ planned.Tunnel k c w n a b d → ⊥) → (t : Plan) → planned_outcome q ≡ value (some t) → ⊥
+      go (planned.Tunnel k c w n a b d) o t e = o k c w n a b d refl
       go planned.Absent o t e = let z : ◌≡◌ {A = ℕ} 0 1 = cc in omega arith
       go (planned.Refused r) o t e = let w = refused_as_lem (value (some t)) r e in let v = w.2 in let z : ◌≡◌ {A = ℕ} 0 1 = cc in omega arith
 

@@ -1,6 +1,5 @@
 -- Laws on the routes of adapters, on devices of tables and on where a hop leads, step by step. Assumes nothing.
 use Prim.Native.Nat.{ℕ, suc, ◌+◌, ◌<◌}
-use mathlib.Core.Logic.{⊎_elim}
 use mathlib.Core.Bool.{Bool, true, false, cond, ◌&&◌}
 use mathlib.Core.Path.{◌≡◌, refl, sym, ap, ◌∙◌, subst}
 use mathlib.Core.List.{List, [], ◌∷◌}
@@ -10,8 +9,6 @@ use native.Mathlib.Decide.{dec_lt}
 use lib.Dec.{eqb}
 use lib.ListN.{length}
 use borrow.Author.Tests.{eq-eqb, ne_eqb, eqb-true}
-use denote.Enum.Declared.{tag_of}
-use types.Run.{OneOf}
 use Rattle.refusal.specs.Outcome.{Outcome, refused, value, bind}
 use Rattle.refusal.specs.Refusal.{refusal_of}
 use Rattle.refusal.specs.declared.Fault.{Fault}
@@ -28,7 +25,6 @@ use Rattle.tables.proofs.Laws.{device_past_routes}
 use Rattle.search.specs.Lanes.{lane_if, lane_found, LaneSought}
 use Rattle.search.specs.declared.LaneAt.{LaneAt}
 use Rattle.search.specs.declared.LaneAt.TheVariants as lane
-use Rattle.search.specs.contracts.LaneAt as IsLane-type
 use Rattle.load.specs.Answers.{present, asked_device}
 use Rattle.fabric.specs.Links.{is_upstream, upstream_route_of, downstream_route_of, route_or}
 use Rattle.fabric.specs.Fabric.{Way, Way.on, Way.last, Way.dropped, stand_by, up_by, arrive_up, down_by, arrive_down, to_device, to_router, to_route, leads_from, leads_by, leads}

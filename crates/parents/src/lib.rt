@@ -1,4 +1,6 @@
 // The parent of a device of a survey.
+#![tactic(auto)]
+
 ghost use Rattle.std.specs.Prelude.{ℕ, ◌≡◌, List};
 ghost use Rattle.refusal.specs.Outcome.{value};
 ghost use Rattle.tables.specs.Packed.{devices_in};

@@ -1,7 +1,6 @@
 -- Laws for the loop that writes a path: the words so far, and where a hop leads. Assumes nothing.
 use Prim.Native.Nat.{ℕ, suc, ◌+◌, ◌-◌, ◌*◌, ◌/◌, ◌≤◌, ◌<◌}
 use mathlib.Core.Path.{◌≡◌, refl, sym, ap, ◌∙◌, subst}
-use mathlib.Core.Logic.{⊎_elim}
 use mathlib.Core.Bool.{true≢false}
 use mathlib.Core.List.{List, [], ◌∷◌, ◌++◌, append_assoc, append-nil}
 use mathlib.Core.Option.{some}
@@ -9,8 +8,6 @@ use native.Mathlib.Omega.{arith}
 use native.Mathlib.Decide.{dec_lt}
 use lib.ListN.{length, get_or, take, drop, set, length-append, length-drop, length-set}
 use lib.Seq.{take_at, drop_at, sets-eq, drop-drop, drop-cons, drop-set-lt}
-use denote.Enum.Declared.{tag_of}
-use types.Run.{OneOf}
 use Rattle.refusal.specs.Outcome.{Outcome, refused, value, bind}
 use Rattle.tables.specs.Rows.{EntryRow}
 use Rattle.tables.specs.Packed.{entries_in}
@@ -26,7 +23,6 @@ use Rattle.fabric.specs.Fabric.{leads}
 use Rattle.fabric.specs.Tables.{InOrder, LeadsTo, next_outcome, rows_with}
 use Rattle.fabric.specs.declared.Next.{Next}
 use Rattle.fabric.specs.declared.Next.TheVariants as next
-use Rattle.fabric.specs.contracts.Next as next-type
 use Rattle.walk.specs.Walking.{Stand, End, End.path, End.no_path, End.fault, walk_on, turn_by}
 use Rattle.walk.specs.Tables.{rows_of, Tabled}
 use Rattle.walk.proofs.Leading.{there_below, leads_there, upstreams}
@@ -78,9 +74,9 @@ refused_as_lem (refused k vs) r e = (k, vs, refl)
 refused_as_lem {A} (value a) r e = absurd (let z : refused 0 [] ≡ value a = subst (λ o. bind o (λ b. refused 0 []) ≡ o) e (refused_bind r (λ b. refused 0 [])) in let y : ◌≡◌ {A = ℕ} 0 1 = cc in omega arith)
 
 -- a hop that leads nowhere further ends the walk
-ends_here : (e : EntryRow) (r : Next) → OneOf (1 ∷ 2 ∷ 3 ∷ []) (tag_of next-type.the_type r) → (z : End) × (turn_by e (next_outcome r) ≡ comes-to z)
+ends_here : (e : EntryRow) (r : Next) → ((q a : ℕ) → r ≡ next.On q a → ⊥) → (z : End) × (turn_by e (next_outcome r) ≡ comes-to z)
 unfolding next_outcome turn_by
-ends_here e (next.On q a) k = absurd (⊎_elim (λ y. omega arith) (⊎_elim (λ y. omega arith) (λ y. omega arith)) k)
+ends_here e (next.On q a) k = absurd (k q a refl)
 ends_here e next.Last k = (path, refl)
 ends_here e next.Dropped k = (no_path, refl)
 ends_here e (next.Refused f) k = let w = refused_as_lem (refused_by f) f refl in (fault w.0 w.1, ap (turn_by e) w.2)
@@ -200,7 +196,7 @@ module _ (en ad ro ma : List ℕ) (s : Stand) (old : List ℕ) where
           }
 
           -- where it leads nowhere further it is the last
-          pub kept_last : OneOf (1 ∷ 2 ∷ 3 ∷ []) (tag_of next-type.the_type t) → HopsPut en ad ro ma s old (i + 1) out'
+          pub kept_last : ((q b : ℕ) → t ≡ next.On q b → ⊥) → HopsPut en ad ro ma s old (i + 1) out'
           kept_last w = done (i + 1) out' (omega arith) (two_long out i u v ∙ k.long) (two_tail out old i u v k.tail)
               (λ m y.
               let x = ends_here (row p a h o g) t w in

@@ -1,4 +1,6 @@
 // A path's result words, written by a walk on the tables that a survey is loaded to.
+#![tactic(auto)]
+
 ghost use Rattle.std.specs.Prelude.{◌+◌, ◌*◌, ◌≤◌, ◌<◌, ◌≡◌, length};
 ghost use Rattle.walk.specs.Walking.{Stand};
 ghost use Rattle.path.specs.Put.{Put, WalkPut};

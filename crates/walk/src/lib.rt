@@ -1,4 +1,6 @@
 // The walk (module 7, `discover_path`) on the tables that a survey is loaded to.
+#![tactic(auto)]
+
 ghost use Rattle.walk.specs.Tables.{Tallied, Onward};
 
 use fabric::Next;

@@ -1,0 +1,30 @@
+use native.Mathlib.Omega.{arith}
+use Rattle.walk.proofs.Turns.{kept_start, kept_ring, kept_last, kept_dropped, kept_refused, kept_stops, kept_on}
+use Rattle.walk.proofs.onward.Goals as goal
+
+pub loop-left-init : goal.loop-left-init
+loop-left-init c = (kept_start _ _ _ _, omega arith)
+
+pub returns-then-left-lt1 : goal.returns-then-left-lt1
+returns-then-left-lt1 c = kept_ring _ _ _ _ c.loop-left.invariant.0 (omega (arith, c.loop-left.invariant.1, c.if-left-lt1.true))
+
+pub overflow_add-hops : goal.overflow_add-hops
+overflow_add-hops c = omega (arith, c.loop-left.invariant.1, c.if-left-lt1.false)
+
+pub returns-in_default : goal.returns-in_default
+returns-in_default c = kept_stops _ _ _ _ c.loop-left.invariant.0 (omega (arith, c.loop-left.invariant.1, c.if-left-lt1.false)) c.leads.ensures c.in-On.is c.find_entry.ensures c.in_default.is
+
+pub loop-left-smaller : goal.loop-left-smaller
+loop-left-smaller c = omega (arith, c.if-left-lt1.false)
+
+pub loop-left-preserved : goal.loop-left-preserved
+loop-left-preserved c = (kept_on _ _ _ _ c.loop-left.invariant.0 (omega (arith, c.loop-left.invariant.1, c.if-left-lt1.false)) c.leads.ensures c.in-On.is c.find_entry.ensures c.in-Entry.is, omega (arith, c.loop-left.invariant.1, c.if-left-lt1.false))
+
+pub returns-in-Last : goal.returns-in-Last
+returns-in-Last c = kept_last _ _ _ _ c.loop-left.invariant.0 (omega (arith, c.loop-left.invariant.1, c.if-left-lt1.false)) c.leads.ensures c.in-Last.is
+
+pub returns-in-Dropped : goal.returns-in-Dropped
+returns-in-Dropped c = kept_dropped _ _ _ _ c.loop-left.invariant.0 (omega (arith, c.loop-left.invariant.1, c.if-left-lt1.false)) c.leads.ensures c.in-Dropped.is
+
+pub returns-in-Refused : goal.returns-in-Refused
+returns-in-Refused c = kept_refused _ _ _ _ c.loop-left.invariant.0 (omega (arith, c.loop-left.invariant.1, c.if-left-lt1.false)) c.leads.ensures c.in-Refused.is
