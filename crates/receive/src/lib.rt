@@ -1,4 +1,6 @@
 // The receive path of a ring (module 7, `discover_one_dma`), sought on the tables that a survey is loaded to.
+#![tactic(auto)]
+
 ghost use Rattle.std.specs.Prelude.{ℕ, ◌+◌, ◌*◌, ◌<◌, ◌≡◌, length};
 ghost use Rattle.adapter.specs.Adapter.{facts_row};
 ghost use Rattle.tables.specs.Rows.{device_in};
