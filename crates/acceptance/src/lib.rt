@@ -1,4 +1,6 @@
 // Whether a survey is accepted: loading alone, counted.
+#![tactic(auto)]
+
 ghost use Rattle.std.specs.Prelude.{◌≡◌};
 ghost use Rattle.acceptance.specs.Accepted.{accepted_answer, accepted_outcome};
 

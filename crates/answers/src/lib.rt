@@ -1,4 +1,6 @@
 // What the exported calls answer, in eight words: the calls on numbers, lines, dumps and texts.
+#![tactic(auto)]
+
 ghost use Rattle.std.specs.Prelude.{◌≡◌, [], ◌∷◌};
 ghost use Rattle.std.proofs.Math.Option.{some};
 ghost use Rattle.refusal.specs.Outcome.{refused as refusal, value};

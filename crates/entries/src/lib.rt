@@ -1,4 +1,6 @@
 // The call for the entry of an adapter for a HopID. It loads the survey, and answers from the tables.
+#![tactic(auto)]
+
 ghost use Rattle.std.specs.Prelude.{◌≡◌};
 ghost use Rattle.adapters.specs.Calls.{path_answer, path_outcome};
 

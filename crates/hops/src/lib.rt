@@ -1,4 +1,6 @@
 // A single walk's hops as records.
+#![tactic(auto)]
+
 ghost use Rattle.std.specs.Prelude.{◌≡◌, ◌/◌, ◌-◌, ◌≤◌, ◌<◌, ◌^◌, length};
 ghost use Rattle.walk.specs.Walking.{Stand};
 ghost use Rattle.hops.specs.Calls.{HopsDone};

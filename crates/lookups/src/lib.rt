@@ -1,4 +1,6 @@
 // What the exported calls answer, in eight words: the calls on description words, and whether survey words are well formed.
+#![tactic(auto)]
+
 ghost use Rattle.std.specs.Prelude.{◌≤◌, ◌≡◌, ◌++◌, length, drop};
 ghost use Rattle.description.specs.Rules.{checked_outcome};
 ghost use Rattle.survey.specs.Rules.{checked_outcome as surveyOutcome};

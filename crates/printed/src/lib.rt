@@ -1,4 +1,6 @@
 // What the program prints of result words, into a lent buffer: their lines; and how many tunnels they have.
+#![tactic(auto)]
+
 ghost use Rattle.std.specs.Prelude.{◌<◌, ◌≡◌, ◌∷◌, length, drop};
 ghost use Rattle.print.specs.Print.{Puts};
 ghost use Rattle.printed.specs.Printed.{parts_of, lines_of, tunnels_in, PrintDone};

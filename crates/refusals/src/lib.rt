@@ -1,4 +1,6 @@
 // Refusals by document 01's numbers and values.
+#![tactic(auto)]
+
 ghost use Rattle.std.specs.Prelude.{ℕ, ◌≡◌};
 ghost use Rattle.refusal.specs.Refusal.{refusal_of};
 ghost use Rattle.load.specs.Answers.{refused_by};

@@ -1,4 +1,6 @@
 // What the exported calls answer, in eight words: a refusal, and the calls on a survey and on one adapter.
+#![tactic(auto)]
+
 ghost use Rattle.std.specs.Prelude.{◌≡◌};
 ghost use Rattle.std.proofs.Math.Option.{some};
 ghost use Rattle.refusal.specs.Outcome.{value};

@@ -1,4 +1,6 @@
 // The routes of one adapter of a survey. Each call loads the survey, and answers from the tables.
+#![tactic(auto)]
+
 ghost use Rattle.std.specs.Prelude.{◌≡◌};
 ghost use Rattle.fabric.specs.Links.{route_outcome};
 ghost use Rattle.devices.specs.Calls.{upstream_route_answer, downstream_route_answer};

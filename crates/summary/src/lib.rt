@@ -1,4 +1,6 @@
 // What the program prints first, into a lent buffer: the number of tunnels, or a refusal and nothing more.
+#![tactic(auto)]
+
 ghost use Rattle.std.specs.Prelude.{◌++◌};
 ghost use Rattle.util.specs.Text.{bytes_of};
 ghost use Rattle.print.specs.Print.{decimal, Puts};

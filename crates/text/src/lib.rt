@@ -1,4 +1,6 @@
 // The program's text, to survey words.
+#![tactic(auto)]
+
 ghost use Rattle.std.specs.Prelude.{◌≡◌, ◌++◌, ◌+◌, ◌*◌, ◌%◌, ◌≤◌, ◌<◌, ℕ, eqb, length, drop};
 ghost use Rattle.dump.specs.Dump.{dump_words};
 ghost use Rattle.text.specs.Text.{bit, device_head, adapter_head, device_words, survey_words, TextDone};
