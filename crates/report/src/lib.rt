@@ -1,4 +1,6 @@
 // What the program prints of a loaded survey: all adapters are tried first, then each one's lines are printed.
+#![tactic(auto)]
+
 ghost use Rattle.std.specs.Prelude.{◌<◌, ◌≡◌, true, false, length};
 ghost use Rattle.report.specs.Tables.{Fits, Tries, Paged};
 ghost use Rattle.report.specs.Work.{Answered};
