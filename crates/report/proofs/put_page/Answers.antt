@@ -1,13 +1,7 @@
 use mathlib.Core.Path.{sym}
 use lib.Seq.{length-take-le}
-use Rattle.report.specs.Tables.{Fits}
 use Rattle.report.proofs.Paging.{paged_larger, paged_past, paged_refused, paged_bytes, paged_short}
 use Rattle.report.proofs.put_page.Goals as goal
-
--- `report::put_page` meets its contract.
--- the tables are no larger than a survey loads to
-fits : (m : tie.After-answer-at) → let a = m.before.before.before.before.before.before.before.before.before.before.args in Fits a.entries.now a.adapters.now a.routes.now
-fits m = m.before.before.before.before.larger.ensures.0 m.before.before.before.if1.false
 
 pub returns-then-larger : goal.returns-then-larger
 returns-then-larger c = paged_larger _ _ _ _ _ _ (c.larger.ensures.1 c.if-larger.true)
@@ -22,10 +16,10 @@ pub slice_bounds-lines-end : goal.slice_bounds-lines-end
 slice_bounds-lines-end c = sym (length-take-le _ _ (c.answer_at.ensures.within _ c.in-Words.is))
 
 pub returns-in-Refused : goal.returns-in-Refused
-returns-in-Refused c = paged_refused _ _ _ _ _ _ c.if-adapters-index.false (fits m) _ _ c.answer_at.ensures _ c.in-Refused.is
+returns-in-Refused c = paged_refused _ _ _ _ _ _ c.if-adapters-index.false (c.larger.ensures.0 c.if-larger.false) _ _ c.answer_at.ensures _ c.in-Refused.is
 
 pub returns-in-Bytes : goal.returns-in-Bytes
-returns-in-Bytes c = paged_bytes _ _ _ _ _ _ c.if-adapters-index.false (fits m) _ _ c.answer_at.ensures _ c.in-Words.is _ _ c.lines.ensures _ c.in-Bytes.is
+returns-in-Bytes c = paged_bytes _ _ _ _ _ _ c.if-adapters-index.false (c.larger.ensures.0 c.if-larger.false) _ _ c.answer_at.ensures _ c.in-Words.is _ _ c.lines.ensures _ c.in-Bytes.is
 
 pub returns-in-Short : goal.returns-in-Short
-returns-in-Short c = paged_short _ _ _ _ _ _ c.if-adapters-index.false (fits m) _ _ c.answer_at.ensures _ c.in-Words.is _ _ c.lines.ensures _ c.in-Short.is
+returns-in-Short c = paged_short _ _ _ _ _ _ c.if-adapters-index.false (c.larger.ensures.0 c.if-larger.false) _ _ c.answer_at.ensures _ c.in-Words.is _ _ c.lines.ensures _ c.in-Short.is
