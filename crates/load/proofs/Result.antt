@@ -5,7 +5,7 @@ use mathlib.Core.List.{List}
 use mir.Val.{Val}
 use denote.Laws.{Is}
 use denote.Struct.Declared as struct
-use lib.ListN.{length, take, length-map}
+use lib.ListN.{length, take}
 use Rattle.refusal.specs.Outcome.{Outcome, bind}
 use Rattle.refusal.proofs.Laws.{fault_bind}
 use Rattle.tables.specs.Rows.{Rows}

@@ -1,7 +1,6 @@
 use mathlib.Core.Path.{sym}
 use native.Mathlib.Omega.{arith}
 use lib.Seq.{length-take-le}
-use Rattle.path.specs.Put.{Sized}
 use Rattle.path.proofs.Answering.{put_larger, hops_few, put_refused, put_absent, put_short, put_whole}
 use Rattle.path.proofs.put_path.Goals as goal
 
