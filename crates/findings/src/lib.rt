@@ -1,4 +1,6 @@
 // What the exported calls answer, in eight words: the calls that follow links, to a parent, along a path, to tunnels.
+#![tactic(auto)]
+
 ghost use Rattle.std.specs.Prelude.{◌≡◌};
 ghost use Rattle.parents.specs.Parents.{parent_outcome};
 ghost use Rattle.path.specs.Put.{walk_outcome};

@@ -1,4 +1,6 @@
 // What the program does between reading a text and writing lines.
+#![tactic(auto)]
+
 ghost use Rattle.std.specs.Prelude.{ℕ, ◌≤◌, ◌≡◌, List, [], ◌∷◌, length};
 ghost use Rattle.refusal.specs.Outcome.{refused as refusal};
 ghost use Rattle.load.specs.Answers.{UsableBy};
