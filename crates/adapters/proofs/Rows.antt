@@ -12,7 +12,7 @@ use Rattle.refusal.specs.declared.Fault.TheVariants as fault
 use Rattle.usb4.specs.declared.Speed.{Speed}
 use Rattle.state.specs.State.{is_enabled, speed_outcome as speed_by}
 use Rattle.state.specs.declared.SpeedFound.TheVariants as speed
-use Rattle.adapter.specs.Adapter.{AdapterRow, adapter_site, facts_row, min_hop, hop_outcome, max_hop_outcome as maxHopBy}
+use Rattle.adapter.specs.Adapter.{AdapterRow, adapter_site, facts_row, min_hop, hop_outcome, max_hop_outcome as max_hop_by}
 use Rattle.adapter.specs.declared.Facts.{Facts}
 use Rattle.adapter.specs.declared.HopFound.{HopFound}
 use Rattle.adapter.specs.declared.MaxHop.TheVariants as most
@@ -192,18 +192,18 @@ module _ (t s : List ℕ) (p n : ℕ) (r : RowFound) (q : row_outcome p r ≡ ro
     unfolding speed_outcome speed_by refused_by adapter_site
     speed_lacks e = ap (λ o. speed_by (adapter_site p x.number) o) (sym e) ∙ to_speed
 
-    to_hop : maxHopBy (adapter_site p x.number) x.max_hop ≡ max_hop_answer t s p n
+    to_hop : max_hop_by (adapter_site p x.number) x.max_hop ≡ max_hop_answer t s p n
     unfolding facts_row max_hop_answer bind
     to_hop = ap (λ (o : Outcome AdapterRow). bind o (λ y. y.max_hop)) its_row
 
     pub hop_is : (h : ℕ) → x.max_hop ≡ most.Hop h → max_hop_outcome (max-hop.Hop h) ≡ max_hop_answer t s p n
-    unfolding max_hop_outcome maxHopBy
-    hop_is h e = ap (λ o. maxHopBy (adapter_site p x.number) o) (sym e) ∙ to_hop
+    unfolding max_hop_outcome max_hop_by
+    hop_is h e = ap (λ o. max_hop_by (adapter_site p x.number) o) (sym e) ∙ to_hop
 
     pub hop_none : x.max_hop ≡ most.None → max_hop_outcome max-hop.None ≡ max_hop_answer t s p n
-    unfolding max_hop_outcome maxHopBy
-    hop_none e = ap (λ o. maxHopBy (adapter_site p x.number) o) (sym e) ∙ to_hop
+    unfolding max_hop_outcome max_hop_by
+    hop_none e = ap (λ o. max_hop_by (adapter_site p x.number) o) (sym e) ∙ to_hop
 
     pub hop_lacks : x.max_hop ≡ most.NoField → max_hop_outcome (max-hop.Refused (refusal.Fault (fault.NoField (record { place = p; adapter = x.number })))) ≡ max_hop_answer t s p n
-    unfolding max_hop_outcome maxHopBy refused_by adapter_site
-    hop_lacks e = ap (λ o. maxHopBy (adapter_site p x.number) o) (sym e) ∙ to_hop
+    unfolding max_hop_outcome max_hop_by refused_by adapter_site
+    hop_lacks e = ap (λ o. max_hop_by (adapter_site p x.number) o) (sym e) ∙ to_hop

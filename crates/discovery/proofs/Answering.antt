@@ -17,7 +17,7 @@ use Rattle.usb4.specs.Numbers.{type_number, state_number}
 use Rattle.usb4.specs.declared.AdapterType.{AdapterType}
 use Rattle.usb4.specs.declared.AdapterType.TheVariants as type
 use Rattle.usb4.specs.declared.State.{State}
-use Rattle.usb4.specs.declared.TunnelType.TheVariants as tunnelType
+use Rattle.usb4.specs.declared.TunnelType.TheVariants as tunnel_type
 use Rattle.state.specs.State.{is_protocol, is_enabled}
 use Rattle.adapter.specs.Adapter.{AdapterRow, min_hop, adapter_site, facts_row, max_hop_outcome}
 use Rattle.adapter.specs.declared.Facts.{Facts}
@@ -267,10 +267,10 @@ tunnel_walks : (x : Rows) (p a n : ℕ) (t : Option Tunnel) → tunnel_by x p a 
 unfolding tunnel_by Walks
 tunnel_walks x p a n t e = go (eqb n 4) (eqb n 6) (eqb n 8) t e
   where
-    go : (b c d : Bool) (t : Option Tunnel) → cond b (display_port x p a) (cond c (down_and_up x tunnelType.Pcie 5 6 p a) (cond d (down_and_up x tunnelType.Usb3 0 1 p a) (value none))) ≡ value t → Walks x t
+    go : (b c d : Bool) (t : Option Tunnel) → cond b (display_port x p a) (cond c (down_and_up x tunnel_type.Pcie 5 6 p a) (cond d (down_and_up x tunnel_type.Usb3 0 1 p a) (value none))) ≡ value t → Walks x t
     go true c d t e = display_port_walks x p a t e
-    go false true d t e = down_and_up_walks x tunnelType.Pcie 5 6 p a t e
-    go false false true t e = down_and_up_walks x tunnelType.Usb3 0 1 p a t e
+    go false true d t e = down_and_up_walks x tunnel_type.Pcie 5 6 p a t e
+    go false false true t e = down_and_up_walks x tunnel_type.Usb3 0 1 p a t e
     go false false false none e = omega arith
     go false false false (some t) e = absurd (let z : ◌≡◌ {A = ℕ} 0 1 = cc in omega arith)
 
@@ -283,19 +283,19 @@ module _ (en ad ro ma : List ℕ) (p a n : ℕ) where
   unfolding tunnel_by
   plan_display_port e r g = plans_as (λ x. display_port x p a) r (λ x. ap (tunnel_by x p a) e) g
 
-  pub plan_pcie : n ≡ 6 → (r : Planned) → Plans en ad ro ma p (λ x. down_and_up x tunnelType.Pcie 5 6 p a) r → Plans en ad ro ma p (λ x. tunnel_by x p a n) r
+  pub plan_pcie : n ≡ 6 → (r : Planned) → Plans en ad ro ma p (λ x. down_and_up x tunnel_type.Pcie 5 6 p a) r → Plans en ad ro ma p (λ x. tunnel_by x p a n) r
   unfolding tunnel_by
-  plan_pcie e r g = plans_as (λ x. down_and_up x tunnelType.Pcie 5 6 p a) r (λ x. ap (tunnel_by x p a) e) g
+  plan_pcie e r g = plans_as (λ x. down_and_up x tunnel_type.Pcie 5 6 p a) r (λ x. ap (tunnel_by x p a) e) g
 
-  pub plan_usb3 : n ≡ 8 → (r : Planned) → Plans en ad ro ma p (λ x. down_and_up x tunnelType.Usb3 0 1 p a) r → Plans en ad ro ma p (λ x. tunnel_by x p a n) r
+  pub plan_usb3 : n ≡ 8 → (r : Planned) → Plans en ad ro ma p (λ x. down_and_up x tunnel_type.Usb3 0 1 p a) r → Plans en ad ro ma p (λ x. tunnel_by x p a n) r
   unfolding tunnel_by
-  plan_usb3 e r g = plans_as (λ x. down_and_up x tunnelType.Usb3 0 1 p a) r (λ x. ap (tunnel_by x p a) e) g
+  plan_usb3 e r g = plans_as (λ x. down_and_up x tunnel_type.Usb3 0 1 p a) r (λ x. ap (tunnel_by x p a) e) g
 
   none_by : (n ≡ 4 → ⊥) → (n ≡ 6 → ⊥) → (n ≡ 8 → ⊥) → (x : Rows) → tunnel_by x p a n ≡ value none
   unfolding tunnel_by
-  none_by i j k x = ap (λ b. cond b (display_port x p a) (cond (eqb n 6) (down_and_up x tunnelType.Pcie 5 6 p a) (cond (eqb n 8) (down_and_up x tunnelType.Usb3 0 1 p a) (value none)))) (ne_eqb n 4 i)
-      ∙ ap (λ b. cond b (down_and_up x tunnelType.Pcie 5 6 p a) (cond (eqb n 8) (down_and_up x tunnelType.Usb3 0 1 p a) (value none))) (ne_eqb n 6 j)
-      ∙ ap (λ b. cond b (down_and_up x tunnelType.Usb3 0 1 p a) (value none)) (ne_eqb n 8 k)
+  none_by i j k x = ap (λ b. cond b (display_port x p a) (cond (eqb n 6) (down_and_up x tunnel_type.Pcie 5 6 p a) (cond (eqb n 8) (down_and_up x tunnel_type.Usb3 0 1 p a) (value none)))) (ne_eqb n 4 i)
+      ∙ ap (λ b. cond b (down_and_up x tunnel_type.Pcie 5 6 p a) (cond (eqb n 8) (down_and_up x tunnel_type.Usb3 0 1 p a) (value none))) (ne_eqb n 6 j)
+      ∙ ap (λ b. cond b (down_and_up x tunnel_type.Usb3 0 1 p a) (value none)) (ne_eqb n 8 k)
 
   pub plan_other : (n ≡ 4 → ⊥) → (n ≡ 6 → ⊥) → (n ≡ 8 → ⊥) → Plans en ad ro ma p (λ x. tunnel_by x p a n) planned.Absent
   unfolding planned_outcome words_by paths_by plan_if bind

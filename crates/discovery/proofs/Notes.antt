@@ -15,7 +15,7 @@ use Rattle.tables.specs.Rows.{Rows}
 use Rattle.load.specs.declared.Refusal.{Refusal}
 use Rattle.load.proofs.Result.{refused_bind}
 use Rattle.walk.specs.Walking.{Stand}
-use Rattle.walk.specs.Tables.{rows_of, Tabled, Leaving, tally_outcome, Tallied, hops_by as hopsOfWalk}
+use Rattle.walk.specs.Tables.{rows_of, Tabled, Leaving, tally_outcome, Tallied, hops_by as hops_of_walk}
 use Rattle.walk.specs.declared.Walked.{Walked}
 use Rattle.walk.specs.declared.Walked.TheVariants as walked
 use Rattle.receive.specs.Receive.{at}
@@ -77,8 +77,8 @@ module _ (en ad ro ma : List ℕ) (note p a h : ℕ) (w : Walked) (f : Tallied e
   path_absent e ring = record { says = tells walked.Absent e ring; few = omega arith }
 
   pub path_there : (k q b o : ℕ) → w ≡ walked.Path k q b o → (ring : ℕ) → NotePath en ad ro ma ring note (answer.Path p a h k q b)
-  unfolding received_outcome hops_by tally_outcome bind said_from hopsOfWalk
-  path_there k q b o e ring = record { says = tells (walked.Path k q b o) e ring; few = omega (arith, f.few, ap hopsOfWalk e) }
+  unfolding received_outcome hops_by tally_outcome bind said_from hops_of_walk
+  path_there k q b o e ring = record { says = tells (walked.Path k q b o) e ring; few = omega (arith, f.few, ap hops_of_walk e) }
 
 -- ---- what the notes tell
 

@@ -11,7 +11,7 @@ use borrow.Rule.Slice.PartMut.{put_mid}
 use Rattle.refusal.specs.Outcome.{value}
 use Rattle.usb4.specs.Numbers.{tunnel_number}
 use Rattle.usb4.specs.declared.TunnelType.{TunnelType}
-use Rattle.usb4.specs.declared.TunnelType.TheVariants as tunnelType
+use Rattle.usb4.specs.declared.TunnelType.TheVariants as tunnel_type
 use Rattle.walk.specs.Walking.{Stand}
 use Rattle.walk.specs.Tables.{rows_of, Tabled}
 use Rattle.path.specs.Words.{path_words, words_needed, with_path}
@@ -190,10 +190,10 @@ module _ (en ad ro ma : List ℕ) where
 -- ---- the head word
 
 pub number_few : (k : TunnelType) → tunnel_number k ≤ 3
-number_few tunnelType.Usb3 = omega arith
-number_few tunnelType.DisplayPort = omega arith
-number_few tunnelType.Pcie = omega arith
-number_few tunnelType.Dma = omega arith
+number_few tunnel_type.Usb3 = omega arith
+number_few tunnel_type.DisplayPort = omega arith
+number_few tunnel_type.Pcie = omega arith
+number_few tunnel_type.Dma = omega arith
 
 pub closed_word : (c : Bool) (m n k : ℕ) → c ≡ true → n ≡ k → 2147483648 + m * 256 + n + 65536 ≡ 8 * 268435456 + cond c 65536 0 + m * 256 + k
 closed_word c m n k e f = omega (arith, f) ∙ ap (λ b. 8 * 268435456 + cond b 65536 0 + m * 256 + k) (sym e)

@@ -3,7 +3,7 @@ use Rattle.std.specs.Prelude.{ℕ, ◌+◌, ◌/◌, ◌%◌, ◌≤◌, ◌<◌
 use mathlib.Core.List.{List, [], ◌∷◌, ◌++◌, map, Option-to_list}
 use Rattle.std.proofs.Math.Option.{Option, none, some}
 use Rattle.refusal.specs.Outcome.{Outcome, value, bind}
-use Rattle.usb4.specs.declared.TunnelType.TheVariants as tunnelType
+use Rattle.usb4.specs.declared.TunnelType.TheVariants as tunnel_type
 use Rattle.tables.specs.Rows.{EntryRow, Rows, entry_in}
 use Rattle.tables.specs.Packed.{entries_in}
 use Rattle.load.specs.Answers.{refused_by}
@@ -179,4 +179,4 @@ dma_by x p a o = bind o (λ m. or_none m (λ hi. ring_list x p a hi))
 
 -- the tunnel of an adapter that has one at most, by the number of its kind
 unfoldable pub tunnel_by : Rows → ℕ → ℕ → ℕ → Outcome (Option Tunnel)
-tunnel_by x p a n = cond (eqb n 4) (display_port x p a) (cond (eqb n 6) (down_and_up x tunnelType.Pcie 5 6 p a) (cond (eqb n 8) (down_and_up x tunnelType.Usb3 0 1 p a) (value none)))
+tunnel_by x p a n = cond (eqb n 4) (display_port x p a) (cond (eqb n 6) (down_and_up x tunnel_type.Pcie 5 6 p a) (cond (eqb n 8) (down_and_up x tunnel_type.Usb3 0 1 p a) (value none)))

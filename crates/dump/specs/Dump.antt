@@ -21,9 +21,9 @@ dump_words s = words (map group_of (records_in s))
 
 -- by the words of room in each: a byte above 127 is 1, with its place; too little room is 2, with the words needed; else the number of records
 unfoldable pub dump_answer : List ℕ → ℕ → ℕ → Outcome ℕ
-dump_answer s inScratch inOutput =
+dump_answer s in_scratch in_output =
     cond (ltb (place_from is_high s 0) (length s)) (refused 1 (place_from is_high s 0 ∷ []))
-    (cond (ltb inScratch (words_needed s) || ltb inOutput (words_needed s)) (refused 2 (words_needed s ∷ []))
+    (cond (ltb in_scratch (words_needed s) || ltb in_output (words_needed s)) (refused 2 (words_needed s ∷ []))
     (value (length (records_of (lines s)))))
 
 -- after a refusal the scratch is as it was, else all of it is 0

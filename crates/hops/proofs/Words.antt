@@ -11,7 +11,7 @@ use lib.Seq.{take-suc, take_at, drop_at, drop-drop, set_split, append_snoc, leng
 use Rattle.refusal.specs.Outcome.{value}
 use Rattle.tables.specs.Rows.{EntryRow, Rows, entry_in}
 use Rattle.load.specs.Loading.{valid_entries, loaded}
-use Rattle.orbit.specs.Walk.{Spot, Spot.stand, Spot.ended, Spot.stopped, walk_n, hops_n, hop_at as hopHere}
+use Rattle.orbit.specs.Walk.{Spot, Spot.stand, Spot.ended, Spot.stopped, walk_n, hops_n, hop_at as hop_here}
 use Rattle.orbit.proofs.Orbit.{ends_within}
 use Rattle.walk.specs.Walking.{Stand, End, walk_on}
 use Rattle.walk.specs.Rule.{walk_from}
@@ -34,8 +34,8 @@ entry_fits (y ∷ es) p a h e f q = go (eqb y.device p && eqb y.adapter a && eqb
     go false ih r = ih r
 
 module _ (x : Rows) (f : AllFit x.entries) where
-  here_fits : (z : Spot Stand End) → AllFit (hopHere (walk_on x) z)
-  unfolding hopHere walk_on Option-to_list
+  here_fits : (z : Spot Stand End) → AllFit (hop_here (walk_on x) z)
+  unfolding hop_here walk_on Option-to_list
   here_fits (stand y) = go (entry_in x.entries y.place y.adapter y.hop_id) refl
     where
       go : (o : Option EntryRow) → entry_in x.entries y.place y.adapter y.hop_id ≡ o → AllFit (Option-to_list o)
@@ -47,7 +47,7 @@ module _ (x : Rows) (f : AllFit x.entries) where
   hops_fit : (s : Stand) (n : ℕ) → AllFit (hops_n (walk_on x) s n)
   unfolding hops_n
   hops_fit s zero = omega arith
-  hops_fit s (suc n) = fit_append (hops_n (walk_on x) s n) (hopHere (walk_on x) (walk_n (walk_on x) s n)) (hops_fit s n) (here_fits (walk_n (walk_on x) s n))
+  hops_fit s (suc n) = fit_append (hops_n (walk_on x) s n) (hop_here (walk_on x) (walk_n (walk_on x) s n)) (hops_fit s n) (here_fits (walk_n (walk_on x) s n))
 
 -- a path of an accepted survey: the words have room for its hops, and 8,193 for it
 pub record Path (hs : List EntryRow) : Type 0 where

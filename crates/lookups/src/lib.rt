@@ -3,7 +3,7 @@
 
 ghost use Rattle.std.specs.Prelude.{◌≤◌, ◌≡◌, ◌++◌, length, drop};
 ghost use Rattle.description.specs.Rules.{checked_outcome};
-ghost use Rattle.survey.specs.Rules.{checked_outcome as surveyOutcome};
+ghost use Rattle.survey.specs.Rules.{checked_outcome as survey_outcome};
 ghost use Rattle.metadata.specs.Calls.{described_outcome, field_outcome};
 ghost use Rattle.answers.specs.Said.{said, always, perhaps, one, bare};
 ghost use Rattle.lookups.specs.Handed.{HandedOut, OursSaid};
@@ -22,7 +22,7 @@ pub fn descriptions(answer: description::Checked) -> [u64; 8]
 
 // Whether survey words are well formed.
 pub fn survey(answer: survey::Checked) -> [u64; 8]
-    ensures { result ≡ said (always bare (surveyOutcome answer)) }
+    ensures { result ≡ said (always bare (survey_outcome answer)) }
 {
     match answer {
         survey::Checked::WellFormed => [0, 1, 0, 0, 0, 0, 0, 0],

@@ -105,7 +105,7 @@ pub record Wrote (en ad ro ma : List ℕ) (s : Stand) (old : List ℕ) (i : ℕ)
 
 -- what the loop keeps: no word past the hops so far is changed, whatever the tables
 pub record Kept (en ad ro ma : List ℕ) (s : Stand) (old : List ℕ) (i p a h : ℕ) (out : List ℕ) : Type 0 where
-  pub hop_id_lem : h < 65536
+  pub hop_id : h < 65536
   pub room : 1 + 2 * i ≤ length old
   pub long : length out ≡ length old
   pub tail : drop (1 + 2 * i) out ≡ drop (1 + 2 * i) old
@@ -114,7 +114,7 @@ pub record Kept (en ad ro ma : List ℕ) (s : Stand) (old : List ℕ) (i p a h :
 pub kept_start : (en ad ro ma : List ℕ) (s : Stand) (old : List ℕ) → s.hop_id < 65536 → 1 ≤ length old → Kept en ad ro ma s old 0 s.place s.adapter s.hop_id old
 unfolding so_far hops_n hops_words
 kept_start en ad ro ma s old l room = record {
-  hop_id_lem = l;
+  hop_id = l;
   room = room;
   long = refl;
   tail = refl;
@@ -184,7 +184,7 @@ module _ (en ad ro ma : List ℕ) (s : Stand) (old : List ℕ) where
           pub kept_on : (q b : ℕ) → g < 65536 → t ≡ next.On q b → Kept en ad ro ma s old (i + 1) q b g out'
           unfolding next_outcome turn_by
           kept_on q b w x = record {
-            hop_id_lem = w;
+            hop_id = w;
             room = omega arith;
             long = two_long out i u v ∙ k.long;
             tail = two_tail out old i u v k.tail;

@@ -18,7 +18,7 @@ use Rattle.search.proofs.Laws.{past_hops}
 use Rattle.search.specs.declared.HopAt.{HopAt}
 use Rattle.search.specs.declared.HopAt.TheVariants as hop
 use Rattle.walk.specs.Rule.{walk_from}
-use Rattle.walk.specs.Tables.{rows_of, Tabled, Leaving, leaves, Tallied, Onward, tally_outcome, hops_by as hopsOfWalk}
+use Rattle.walk.specs.Tables.{rows_of, Tabled, Leaving, leaves, Tallied, Onward, tally_outcome, hops_by as hops_of_walk}
 use Rattle.walk.specs.declared.Walked.{Walked}
 use Rattle.walk.specs.declared.Walked.TheVariants as walked
 use Rattle.receive.specs.Receive.{at, Receive, or_rest, or_next}
@@ -120,7 +120,7 @@ module _ (en ad ro ma : List ℕ) (ring q n h hi : ℕ) where
           }
 
           pub looked_fits : o ≡ ring → Looked en ad ro ma ring q n h hi (step.Fits (answer.Path q n k m p b))
-          unfolding tally_outcome Stepped end_hops received_outcome hops_by hopsOfWalk is_path
+          unfolding tally_outcome Stepped end_hops received_outcome hops_by hops_of_walk is_path
           looked_fits f = record {
             stepped = λ t l after.
                 ap (λ (z : ℕ). value (path (at q n k) (record { hops = m; place = p; adapter = b; hop_id = z }))) (sym f)
@@ -129,5 +129,5 @@ module _ (en ad ro ma : List ℕ) (ring q n h hi : ℕ) where
             further = λ j i. absurd (let z : ◌≡◌ {A = ℕ} 0 1 = cc in omega arith);
             passed = λ j i z. absurd (let y : ◌≡◌ {A = ℕ} 0 1 = cc in omega arith);
             fitting = λ a z. let y : answer.Path q n k m p b ≡ a = cc in ap is_path (sym y);
-            few = omega (arith, tally.few, ap hopsOfWalk g);
+            few = omega (arith, tally.few, ap hops_of_walk g);
           }

@@ -254,11 +254,11 @@ module _ (en ad ro ma : List ℕ) (ring : ℕ) where
       -- a path is passed, and noted
       pub among_past : (j o : ℕ) → u ≡ step.Past j o → n < 256 → (w noted' : ℕ) (notes' : List ℕ) → note_ring w ≡ o → (q < 65536 → w ≡ q * 1099511627776 + n * 4294967296 + j * 65536 + o) → PutNote w noted notes noted' notes' → Among en ad ro ma ring i q n (j + 1) hi r noted' notes'
       unfolding Stepped
-      among_past j o e b w noted' notes' Leaves-by is put = record {
+      among_past j o e b w noted' notes' leaves is put = record {
         empty = s.empty;
         fits = s.fits;
         ws = s.ws ++ w ∷ [];
-        written = written_more ring s.ws noted notes w noted' notes' s.written (λ z. at_most.3 (sym Leaves-by ∙ z)) put;
+        written = written_more ring s.ws noted notes w noted' notes' s.written (λ z. at_most.3 (sym leaves ∙ z)) put;
         whole = λ t v. s.whole t v ∙ ap (λ (z : Outcome Said). by_notes (rows_of en ad ro ma) v s.ws z) (this t v) ∙ sym (notes_more (rows_of en ad ro ma) v s.ws w _);
       }
         where
@@ -271,7 +271,7 @@ module _ (en ad ro ma : List ℕ) (ring : ℕ) where
           this t v =
               let p = note_stand_lem w q n j o (is (s.fits t)) (s.fits t) b at_most.1 at_most.2 in
               look (step.Past j o) e t v (left (rows_of en ad ro ma) v (i + 1))
-              ∙ ap (λ (z : ℕ). cond (eqb z v) (walk_said (rows_of en ad ro ma) v (at q n j)) (said (bind (up_to (rows_of en ad ro ma) v q n (j + 1) hi) (or_next (left (rows_of en ad ro ma) v (i + 1)))))) (sym Leaves-by)
+              ∙ ap (λ (z : ℕ). cond (eqb z v) (walk_said (rows_of en ad ro ma) v (at q n j)) (said (bind (up_to (rows_of en ad ro ma) v q n (j + 1) hi) (or_next (left (rows_of en ad ro ma) v (i + 1)))))) (sym leaves)
               ∙ ap (λ (z : Stand). cond (eqb (note_ring w) v) (walk_said (rows_of en ad ro ma) v z) (said (bind (up_to (rows_of en ad ro ma) v q n (j + 1) hi) (or_next (left (rows_of en ad ro ma) v (i + 1)))))) (sym p)
 
       pub among_fits : (a : Received) → u ≡ step.Fits a → Searches (length notes) en ad ro ma ring a noted notes

@@ -10,14 +10,14 @@ use Rattle.util.specs.Text.{bytes_of}
 use Rattle.usb4.specs.Codes.{type_of, lane_state_of, device_kind_of}
 use Rattle.register.specs.Line.{register_of}
 use Rattle.layout.specs.Layout.{keep}
-use Rattle.naming.specs.Naming.{is, is_none, kind_fits, cap_fits, vs_fits, fits as fitsNaming, only, naming}
+use Rattle.naming.specs.Naming.{is, is_none, kind_fits, cap_fits, vs_fits, fits as fits_naming, only, naming}
 use Rattle.fields.specs.Names.{lower, alike, field_is, find_field, one_bit, find_flag}
 use Rattle.metadata.specs.Calls.{value_in, is_set, flag_in}
 use Rattle.metadata.specs.Ours.{bits_named, plain, capped, ours}
 use Rattle.survey.specs.Words.{is_long, size_of, groups_of}
 use Rattle.survey.specs.Rules.{good_device, good_adapter, good_register, after_device, after_adapter, may_stand, after_register, step_of, step_by, size_by, on_step, first_bad, check_of}
 use Rattle.survey.specs.Devices.{register_in, with_register, with_adapter, with_device, with_group, gather, devices_of, read_survey}
-use Rattle.named.specs.Named.{named, or_else, having_name, with_register as havingRegister, by_name, sited, wanted_field, wanted_flag}
+use Rattle.named.specs.Named.{named, or_else, having_name, with_register as having_register, by_name, sited, wanted_field, wanted_flag}
 use Rattle.state.specs.State.{by_offset, both_set, enabled_if, by_flag, by_flags, lane_state, of_kind, state_of, has_speed, speed_in, link_speed}
 use Rattle.adapter.specs.Adapter.{third_value, kind_of, registers_of, indices_from, last_of, between, find_cap, found, is_lane, is_lane0, lane0_of, lane1_of, min_hop, narrow, max_hop_in, max_hop, parse_state, adapter_site, few_registers, row_of, decode_of}
 use Rattle.adapter.specs.Paths.{entry_in, entry_of, with_entry, entries_from, entries_by, entries_of}
@@ -37,8 +37,8 @@ use Rattle.usb4.specs.declared.State.TheVariants as state
 use Rattle.usb4.specs.declared.Speed.TheVariants as speed
 use mathlib.Core.Bool.{false}
 use Rattle.state.specs.State.{is_enabled, is_protocol}
-use Rattle.receive.specs.Receive.{at as standAtHop}
-use Rattle.tunnel.specs.Tunnels.{Tunnel, leaving, or_absent, needed, tunnel_of, down_and_up, alone, rings, or_none, dma, of_kind as tunnelsOf, discover}
+use Rattle.receive.specs.Receive.{at as stand_at_hop}
+use Rattle.tunnel.specs.Tunnels.{Tunnel, leaving, or_absent, needed, tunnel_of, down_and_up, alone, rings, or_none, dma, of_kind as tunnels_of, discover}
 use Rattle.discovery.specs.Answers.{discover_at}
 use Rattle.discoveries.specs.Calls.{discover_answer}
 use Rattle.starred.specs.Table.{Holds, tunnels, ring, host}
@@ -52,16 +52,16 @@ host_rows = record {
 }
 
 host_loads : bind (read_survey host) (λ devices. load_from ours 0 devices) ≡ value host_rows
-unfolding host host_rows entry plain_row router_row example_rows bind refusal_of at bits_of bytes_of type_of lane_state_of device_kind_of register_of keep is is_none kind_fits cap_fits vs_fits fitsNaming only naming lower alike field_is find_field one_bit find_flag value_in is_set flag_in bits_named plain capped ours is_long size_of groups_of good_device good_adapter good_register after_device after_adapter may_stand after_register step_of step_by size_by on_step first_bad check_of register_in with_register with_adapter with_device with_group gather devices_of read_survey named or_else having_name havingRegister by_name sited wanted_field wanted_flag by_offset both_set enabled_if by_flag by_flags lane_state of_kind state_of has_speed speed_in link_speed third_value kind_of registers_of indices_from last_of between find_cap found is_lane is_lane0 lane0_of lane1_of min_hop narrow max_hop_in max_hop parse_state adapter_site few_registers row_of decode_of entry_in entry_of with_entry entries_from entries_by entries_of joined itself and_then owned own_rows load_adapter load_adapters router_cs1 upstream_in device_row device_rows numbered fitting fits no_registers load_device load_from
+unfolding host host_rows entry plain_row router_row example_rows bind refusal_of at bits_of bytes_of type_of lane_state_of device_kind_of register_of keep is is_none kind_fits cap_fits vs_fits fits_naming only naming lower alike field_is find_field one_bit find_flag value_in is_set flag_in bits_named plain capped ours is_long size_of groups_of good_device good_adapter good_register after_device after_adapter may_stand after_register step_of step_by size_by on_step first_bad check_of register_in with_register with_adapter with_device with_group gather devices_of read_survey named or_else having_name having_register by_name sited wanted_field wanted_flag by_offset both_set enabled_if by_flag by_flags lane_state of_kind state_of has_speed speed_in link_speed third_value kind_of registers_of indices_from last_of between find_cap found is_lane is_lane0 lane0_of lane1_of min_hop narrow max_hop_in max_hop parse_state adapter_site few_registers row_of decode_of entry_in entry_of with_entry entries_from entries_by entries_of joined itself and_then owned own_rows load_adapter load_adapters router_cs1 upstream_in device_row device_rows numbered fitting fits no_registers load_device load_from
 host_loads = refl
 
 ring_tunnels : discover_at ring_rows 0 2 ≡ refused 13 []
-unfolding discover_at is_enabled is_protocol standAtHop leaving or_absent needed tunnel_of down_and_up alone tunnelsOf discover ring_rows entry plain_row router_row example_rows bind present asked_device asked_adapter entry_at adapter_in device_in is_router router_from used_bytes depth_of upstream_route downstream_route adapter_beneath downstream_adapter is_upstream route_or upstream_route_of downstream_route_of is_lane adapter_site stand_by stand_at up_by arrive_up down_by arrive_down to_device to_router to_route leads_from leads_by leads turn_by walk_on walk_n hops_n hop_at onward made turned arrive found_at settled walk_from Option-to_list
+unfolding discover_at is_enabled is_protocol stand_at_hop leaving or_absent needed tunnel_of down_and_up alone tunnels_of discover ring_rows entry plain_row router_row example_rows bind present asked_device asked_adapter entry_at adapter_in device_in is_router router_from used_bytes depth_of upstream_route downstream_route adapter_beneath downstream_adapter is_upstream route_or upstream_route_of downstream_route_of is_lane adapter_site stand_by stand_at up_by arrive_up down_by arrive_down to_device to_router to_route leads_from leads_by leads turn_by walk_on walk_n hops_n hop_at onward made turned arrive found_at settled walk_from Option-to_list
 ring_tunnels = refl
 
 -- HopIDs 1 to 0: no ring
 host_tunnels : discover_at host_rows 0 1 ≡ value (some [])
-unfolding discover_at is_enabled is_protocol host_rows router_row bind present asked_device asked_adapter adapter_in device_in min_hop rings or_none dma tunnelsOf discover
+unfolding discover_at is_enabled is_protocol host_rows router_row bind present asked_device asked_adapter adapter_in device_in min_hop rings or_none dma tunnels_of discover
 host_tunnels = refl
 
 module _ (words : List ℕ) (x : Rows) (p a : ℕ) (loads : bind (read_survey words) (λ devices. load_from ours 0 devices) ≡ value x) where

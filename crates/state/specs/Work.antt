@@ -4,7 +4,7 @@ use Rattle.std.proofs.Math.Option.{none, some}
 use Rattle.listing.specs.After.{after, register_at}
 use Rattle.state.specs.State.{by_offset}
 
--- r is where the register that byOffset finds has its group, or the length
+-- r is where the register that by_offset finds has its group, or the length
 pub record OffsetAt (t : List ℕ) (from o r : ℕ) : Type 0 where
   pub room : r < length t → r + 4 ≤ length t
   pub found : by_offset o (after t from).registers ≡ cond (ltb r (length t)) (some (register_at t r)) none

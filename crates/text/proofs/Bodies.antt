@@ -5,7 +5,7 @@ use mathlib.Core.Path.{◌≡◌, refl, ◌∙◌, ap, sym, subst}
 use mathlib.Core.List.{List, [], ◌∷◌, ◌++◌, append-nil}
 use lib.ListN.{length, take, drop, length-append, take-append-drop}
 use Rattle.scan.specs.Scan.{lines, is_line_feed, place_from}
-use Rattle.room.specs.Records.{records_of as dumpRecords}
+use Rattle.room.specs.Records.{records_of as dump_records}
 use Rattle.dump.specs.Dump.{records_in, dump_words}
 use Rattle.dump.proofs.Groups.{put_step, put_end}
 use Rattle.markers.specs.Markers.{Marker, Marker.router, Marker.xdomain, Marker.usb4, Marker.regs, Marker.adapter, Marker.paths, Marker.no_paths, Marker.bad, marker_of}
@@ -14,9 +14,9 @@ use Rattle.text.specs.Work.{sections_from, part_of, Stands, Skipped, NextLine, p
 use Rattle.text.proofs.Sections.{words_at, no_words}
 
 module _ (line body : List ℕ) (ss : List Section) where
-  by : (m : Marker) → m ≡ marker_of line → body_words line body ss ≡ marker_words m (dumpRecords (lines body)) ss
+  by : (m : Marker) → m ≡ marker_of line → body_words line body ss ≡ marker_words m (dump_records (lines body)) ss
   unfolding body_words
-  by m e = ap (λ n. marker_words n (dumpRecords (lines body)) ss) (sym e)
+  by m e = ap (λ n. marker_words n (dump_records (lines body)) ss) (sym e)
 
   pub body_router : (d r : ℕ) → router d r ≡ marker_of line → body_words line body ss ≡ device_words 1 d r ss
   unfolding marker_words

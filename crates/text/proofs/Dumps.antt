@@ -16,7 +16,7 @@ use Rattle.register.specs.declared.Register.{Register}
 use Rattle.groups.specs.Group.{group_of, words}
 use Rattle.groups.specs.declared.Group.{Group}
 use Rattle.dump.specs.Sort.{insert, sort}
-use Rattle.room.specs.Records.{records_of as dumpRecords, words_needed}
+use Rattle.room.specs.Records.{records_of as dump_records, words_needed}
 use Rattle.dump.specs.Dump.{offset, records_in, dump_words, dump_answer, output_after, dump_outcome, ReadDone}
 use Rattle.dump.specs.declared.Dump.{Dump}
 use Rattle.dump.specs.declared.Dump.TheVariants as dump
@@ -49,7 +49,7 @@ length_sorted f rs = length_words (map f (sort offset rs)) ∙ ap (λ n. 4 * n) 
 
 pub length_dump : (s : List ℕ) → length (dump_words s) ≡ words_needed s
 unfolding dump_words records_in words_needed
-length_dump s = length_sorted group_of (dumpRecords (lines s))
+length_dump s = length_sorted group_of (dump_records (lines s))
 
 -- the bytes of lines
 total : List (List ℕ) → ℕ
@@ -73,8 +73,8 @@ total_ended ([] ∷ []) = omega arith
 total_ended ((b ∷ t) ∷ []) = omega arith
 total_ended (t ∷ (u ∷ ps)) = omega (arith, total_ended (u ∷ ps))
 
-total_records : (ls : List (List ℕ)) → 4 * length (dumpRecords ls) ≤ total ls
-unfolding total dumpRecords
+total_records : (ls : List (List ℕ)) → 4 * length (dump_records ls) ≤ total ls
+unfolding total dump_records
 total_records [] = omega arith
 total_records (l ∷ ls) = omega (arith, total_records ls, record_bytes l, count_cons l ls)
 
@@ -118,30 +118,30 @@ low_part t i n low k h =
 
 -- ---- what reading gives
 
-module _ (s scratch out : List ℕ) (low : Low s) (inScratch : length (dump_words s) ≤ length scratch) (inOut : length (dump_words s) ≤ length out) where
-  answer_is : dump_answer s (length scratch) (length out) ≡ value (length (dumpRecords (lines s)))
+module _ (s scratch out : List ℕ) (low : Low s) (in_scratch : length (dump_words s) ≤ length scratch) (inOut : length (dump_words s) ≤ length out) where
+  answer_is : dump_answer s (length scratch) (length out) ≡ value (length (dump_records (lines s)))
   unfolding dump_answer place_from
   answer_is = simp (le-ltb (0 + before is_high s) (length s) (omega (arith, low_high s low)), le-ltb (length scratch) (words_needed s) (omega (arith, length_dump s)), le-ltb (length out) (words_needed s) (omega (arith, length_dump s)))
 
   module _ (r : Dump) (scratch' out' : List ℕ) (done : ReadDone s scratch out r scratch' out') where
-    outcome_is : dump_outcome r ≡ value (length (dumpRecords (lines s)))
+    outcome_is : dump_outcome r ≡ value (length (dump_records (lines s)))
     outcome_is = done.answers ∙ answer_is
 
     read_gives : (n : ℕ) → r ≡ dump.Records n → (4 * n ≡ length (dump_words s)) × (out' ≡ dump_words s ++ drop (4 * n) out)
     unfolding dump_outcome output_after words_needed
     read_gives n e =
-        let o : value n ≡ value (length (dumpRecords (lines s))) = sym (ap dump_outcome e) ∙ outcome_is in
-        let m : n ≡ length (dumpRecords (lines s)) = cc in
+        let o : value n ≡ value (length (dump_records (lines s))) = sym (ap dump_outcome e) ∙ outcome_is in
+        let m : n ≡ length (dump_records (lines s)) = cc in
         (ap (λ k. 4 * k) m ∙ sym (length_dump s), done.writes ∙ ap (λ q. output_after q s out) outcome_is ∙ ap (λ k. dump_words s ++ drop (4 * k) out) (sym m))
 
     not_high : (p : ℕ) → r ≡ dump.NotAscii p → ⊥
     unfolding dump_outcome
-    not_high p e = let o : ◌≡◌ {A = Outcome ℕ} (refused 1 (p ∷ [])) (value (length (dumpRecords (lines s)))) = sym (ap dump_outcome e) ∙ outcome_is in
+    not_high p e = let o : ◌≡◌ {A = Outcome ℕ} (refused 1 (p ∷ [])) (value (length (dump_records (lines s)))) = sym (ap dump_outcome e) ∙ outcome_is in
         let z : ◌≡◌ {A = ℕ} 0 1 = cc in omega arith
 
     not_short : (p : ℕ) → r ≡ dump.Short p → ⊥
     unfolding dump_outcome
-    not_short p e = let o : ◌≡◌ {A = Outcome ℕ} (refused 2 (p ∷ [])) (value (length (dumpRecords (lines s)))) = sym (ap dump_outcome e) ∙ outcome_is in
+    not_short p e = let o : ◌≡◌ {A = Outcome ℕ} (refused 2 (p ∷ [])) (value (length (dump_records (lines s)))) = sym (ap dump_outcome e) ∙ outcome_is in
         let z : ◌≡◌ {A = ℕ} 0 1 = cc in omega arith
 
 -- words that stand at the front of the part from k on
@@ -204,10 +204,10 @@ module _ (D out o : List ℕ) (k r : ℕ) (fits : k + length D ≤ length out) (
 
 pub length_paths : (s : List ℕ) → length (path_words s) ≡ length (dump_words s)
 unfolding path_words dump_words records_in
-length_paths s = length_sorted path_group (dumpRecords (lines s)) ∙ sym (length_dump_records s)
+length_paths s = length_sorted path_group (dump_records (lines s)) ∙ sym (length_dump_records s)
   where
-    length_dump_records : (s : List ℕ) → length (dump_words s) ≡ 4 * length (dumpRecords (lines s))
-    length_dump_records s = length_sorted group_of (dumpRecords (lines s))
+    length_dump_records : (s : List ℕ) → length (dump_words s) ≡ 4 * length (dump_records (lines s))
+    length_dump_records s = length_sorted group_of (dump_records (lines s))
 
 pub whole_dump : (s : List ℕ) → length (dump_words s) % 4 ≡ 0
 unfolding words_needed

@@ -21,7 +21,7 @@ use Rattle.register.specs.declared.Met.TheVariants as met
 use Rattle.groups.specs.Group.{group_of, words}
 use Rattle.dump.proofs.Groups.{Whole, Whole.empty, Whole.group, whole}
 use Rattle.dump.specs.Sort.{insert, sort}
-use Rattle.room.specs.Records.{with_record, records_of as dumpRecords}
+use Rattle.room.specs.Records.{with_record, records_of as dump_records}
 use Rattle.dump.specs.Dump.{offset, records_in, dump_words}
 use Rattle.text.specs.Text.{path_group}
 use Rattle.text.specs.Work.{marked, path_words}
@@ -140,12 +140,12 @@ narrow_line l r q = step (is_comment l) (ltb (length (tokens l)) 4) (eqb (length
     step false false true e = narrow_four _ _ _ r e
     step false false false e = narrow_five _ _ _ _ _ r e
 
-narrow_records : (ls : List (List ℕ)) → All Narrow (dumpRecords ls)
-unfolding dumpRecords with_record
+narrow_records : (ls : List (List ℕ)) → All Narrow (dump_records ls)
+unfolding dump_records with_record
 narrow_records [] = none
 narrow_records (l ∷ ls) = step (meaning l) refl (narrow_records ls)
   where
-    step : (m : Met) → meaning l ≡ m → All Narrow (dumpRecords ls) → All Narrow (with_record m (dumpRecords ls))
+    step : (m : Met) → meaning l ≡ m → All Narrow (dump_records ls) → All Narrow (with_record m (dump_records ls))
     step (met.Record r) e a = more (narrow_line l r e) a
     step (met.Skipped w) e a = a
 

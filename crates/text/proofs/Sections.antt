@@ -9,7 +9,7 @@ use lib.ListN.{length, take, drop, get_or, set, drop_of_length-le}
 use lib.Seq.{sets-eq}
 use borrow.Author.Tests.{eq-eqb, ne_eqb}
 use Rattle.scan.specs.Scan.{lines, is_line_feed, place_from}
-use Rattle.room.specs.Records.{records_of as dumpRecords}
+use Rattle.room.specs.Records.{records_of as dump_records}
 use Rattle.markers.specs.Markers.{Marker, Marker.router, Marker.xdomain, Marker.usb4, Marker.regs, Marker.adapter, Marker.paths, Marker.no_paths, Marker.bad, marker_of}
 use Rattle.grammar.specs.Grammar.{items_of}
 use Rattle.dump.proofs.Groups.{put_four}
@@ -52,12 +52,12 @@ module _ (t : List ℕ) (at e from r : ℕ) (ends : e ≡ place_from is_line_fee
   unfolding sections_from
   sections_next = ap (λ d. sections_of (items_of d)) after.same ∙ skips.sections
 
-  records_next : records_from t (e + 1) ≡ dumpRecords (lines (part_of t from r))
+  records_next : records_from t (e + 1) ≡ dump_records (lines (part_of t from r))
   unfolding records_from
   records_next = ap (λ d. records_of (items_of d)) after.same ∙ skips.records
 
-  pub section_at : sections_from t at ≡ record { head = marker_of (take (e - at) (drop at t)); records = dumpRecords (lines (part_of t from r)) } ∷ sections_from t r
-  section_at = section_here t at e ends here mark ∙ ap (λ rs. record { head = marker_of (take (e - at) (drop at t)); records = rs } ∷ sections_from t (e + 1)) records_next ∙ ap (λ ss. record { head = marker_of (take (e - at) (drop at t)); records = dumpRecords (lines (part_of t from r)) } ∷ ss) sections_next
+  pub section_at : sections_from t at ≡ record { head = marker_of (take (e - at) (drop at t)); records = dump_records (lines (part_of t from r)) } ∷ sections_from t r
+  section_at = section_here t at e ends here mark ∙ ap (λ rs. record { head = marker_of (take (e - at) (drop at t)); records = rs } ∷ sections_from t (e + 1)) records_next ∙ ap (λ ss. record { head = marker_of (take (e - at) (drop at t)); records = dump_records (lines (part_of t from r)) } ∷ ss) sections_next
 
   pub goes_past : (k n : ℕ) → n ≡ next_mark (sections_from t at) → n ≡ k → PastMark t at k r
   goes_past k n q h = record { sections = sym (ap (λ ss. past_mark k ss) section_at ∙ past_same k n _ _ (q ∙ ap next_mark section_at) h); stands = skips.stands }

@@ -16,7 +16,7 @@ use Rattle.register.specs.Line.{meaning}
 use Rattle.register.specs.declared.Register.{Register}
 use Rattle.register.specs.declared.Met.{Met}
 use Rattle.register.specs.declared.Met.TheVariants as met
-use Rattle.room.specs.Records.{with_record, records_of as dumpRecords}
+use Rattle.room.specs.Records.{with_record, records_of as dump_records}
 use Rattle.markers.specs.Markers.{is_marker, marker_of}
 use Rattle.grammar.specs.Grammar.{Item, Item.marker, item_by, item_of, items_of}
 use Rattle.grammar.proofs.Laws.{items_at, items_end}
@@ -74,10 +74,10 @@ unfolding with_record
 with_append (met.Record r) a b = refl
 with_append (met.Skipped w) a b = refl
 
-pub records_append : (ls ms : List (List ℕ)) → dumpRecords (ls ++ ms) ≡ dumpRecords ls ++ dumpRecords ms
-unfolding dumpRecords
+pub records_append : (ls ms : List (List ℕ)) → dump_records (ls ++ ms) ≡ dump_records ls ++ dump_records ms
+unfolding dump_records
 records_append [] ms = refl
-records_append (l ∷ ls) ms = ap (λ q. with_record (meaning l) q) (records_append ls ms) ∙ with_append (meaning l) (dumpRecords ls) (dumpRecords ms)
+records_append (l ∷ ls) ms = ap (λ q. with_record (meaning l) q) (records_append ls ms) ∙ with_append (meaning l) (dump_records ls) (dump_records ms)
 
 -- a cut line ends where it did
 before_cut : (p : ℕ → Bool) (s : List ℕ) (x : ℕ) (q : List ℕ) → p x ≡ true → before p s < length s → before p (take (before p s) s ++ (x ∷ q)) ≡ before p s
@@ -138,7 +138,7 @@ pub record Skips (t : List ℕ) (i j : ℕ) : Type 0 where
   pub above : i ≤ j
   pub within : j ≤ length t
   pub sections : sections_from t i ≡ sections_from t j
-  pub records : records_from t i ≡ dumpRecords (lines (part_of t i j)) ++ records_from t j
+  pub records : records_from t i ≡ dump_records (lines (part_of t i j)) ++ records_from t j
   pub closed : (q : List ℕ) → lines (part_of t i j ++ q) ≡ lines (part_of t i j) ++ lines q
 
 lines_nil : lines [] ≡ []
@@ -148,14 +148,14 @@ none_of : (t : List ℕ) (i : ℕ) → part_of t i i ≡ []
 none_of t i = let z : i - i ≡ 0 = omega arith in ap (λ n. take n (drop i t)) z
 
 pub skips_start : (t : List ℕ) (i : ℕ) → i ≤ length t → Skips t i i
-unfolding dumpRecords
+unfolding dump_records
 skips_start t i h =
     let l : lines (part_of t i i) ≡ [] = ap (λ p. lines p) (none_of t i) ∙ lines_nil in
     record {
       above = omega arith;
       within = h;
       sections = refl;
-      records = sym (ap (λ ls. dumpRecords ls ++ records_from t i) l);
+      records = sym (ap (λ ls. dump_records ls ++ records_from t i) l);
       closed = λ q. ap (λ p. lines (p ++ q)) (none_of t i) ∙ sym (ap (λ ls. ls ++ lines q) l);
     }
 
@@ -174,16 +174,16 @@ module _ (t : List ℕ) (i j e : ℕ) (s : Skips t i j) (here : j < length t) (p
   unfolding sections_from
   sections_on = ap sections_of items_plain ∙ item_sections _ _
 
-  records_on : records_from t j ≡ dumpRecords (take (e - j) (drop j t) ∷ []) ++ records_from t (e + 1)
-  unfolding records_from dumpRecords
+  records_on : records_from t j ≡ dump_records (take (e - j) (drop j t) ∷ []) ++ records_from t (e + 1)
+  unfolding records_from dump_records
   records_on = ap records_of items_plain ∙ item_records _ _ ∙ with_append (meaning (take (e - j) (drop j t))) [] (records_of (items_of (drop (e + 1) t)))
 
   -- by the lines of the longer part
-  records_by_lem : (k : ℕ) → lines (part_of t i k) ≡ lines (part_of t i j) ++ (take (e - j) (drop j t) ∷ []) → records_from t i ≡ dumpRecords (lines (part_of t i k)) ++ records_from t (e + 1)
+  records_by_lem : (k : ℕ) → lines (part_of t i k) ≡ lines (part_of t i j) ++ (take (e - j) (drop j t) ∷ []) → records_from t i ≡ dump_records (lines (part_of t i k)) ++ records_from t (e + 1)
   records_by_lem k f =
-      s.records ∙ ap (λ q. dumpRecords (lines (part_of t i j)) ++ q) records_on
-      ∙ sym (append_assoc (dumpRecords (lines (part_of t i j))) (dumpRecords (take (e - j) (drop j t) ∷ [])) (records_from t (e + 1)))
-      ∙ ap (λ q. q ++ records_from t (e + 1)) (sym (records_append (lines (part_of t i j)) (take (e - j) (drop j t) ∷ [])) ∙ ap (λ ls. dumpRecords ls) (sym f))
+      s.records ∙ ap (λ q. dump_records (lines (part_of t i j)) ++ q) records_on
+      ∙ sym (append_assoc (dump_records (lines (part_of t i j))) (dump_records (take (e - j) (drop j t) ∷ [])) (records_from t (e + 1)))
+      ∙ ap (λ q. q ++ records_from t (e + 1)) (sym (records_append (lines (part_of t i j)) (take (e - j) (drop j t) ∷ [])) ∙ ap (λ ls. dump_records ls) (sym f))
 
   -- LF ends it
   module _ (inside : e < length t) where
@@ -232,7 +232,7 @@ module _ (t : List ℕ) (i j e : ℕ) (s : Skips t i j) (here : j < length t) (p
       above = omega (arith, s.above);
       within = omega arith;
       sections = s.sections ∙ sections_on ∙ sections_end t (e + 1) (omega arith) ∙ sym (sections_end t (length t) (omega arith));
-      records = records_by_lem (length t) lines_all ∙ ap (λ q. dumpRecords (lines (part_of t i (length t))) ++ q) (records_end t (e + 1) (omega arith)) ∙ append-nil _;
+      records = records_by_lem (length t) lines_all ∙ ap (λ q. dump_records (lines (part_of t i (length t))) ++ q) (records_end t (e + 1) (omega arith)) ∙ append-nil _;
       stands = λ h. absurd (omega arith);
     }
 
@@ -255,7 +255,7 @@ skipped_marker t i j s h m = record {
   above = s.above;
   within = s.within;
   sections = s.sections;
-  records = s.records ∙ ap (λ q. dumpRecords (lines (part_of t i j)) ++ q) (records_here t j (place_from is_line_feed t j) refl h m) ∙ append-nil _;
+  records = s.records ∙ ap (λ q. dump_records (lines (part_of t i j)) ++ q) (records_here t j (place_from is_line_feed t j) refl h m) ∙ append-nil _;
   stands = λ _. m;
 }
 
@@ -265,6 +265,6 @@ skipped_end t i j s h = record {
   above = s.above;
   within = s.within;
   sections = s.sections;
-  records = s.records ∙ ap (λ q. dumpRecords (lines (part_of t i j)) ++ q) (records_end t j h) ∙ append-nil _;
+  records = s.records ∙ ap (λ q. dump_records (lines (part_of t i j)) ++ q) (records_end t j h) ∙ append-nil _;
   stands = λ k. absurd (omega arith);
 }

@@ -4,7 +4,7 @@ use Rattle.scan.specs.Scan.{lines}
 use Rattle.register.specs.declared.Register.{Register}
 use Rattle.groups.specs.Group.{words}
 use Rattle.dump.specs.Sort.{sort}
-use Rattle.room.specs.Records.{records_of as dumpRecords}
+use Rattle.room.specs.Records.{records_of as dump_records}
 use Rattle.dump.specs.Dump.{offset}
 use Rattle.markers.specs.Markers.{Marker, Marker.router, Marker.xdomain, Marker.usb4, Marker.regs, Marker.adapter, Marker.paths, Marker.no_paths, Marker.bad, marker_of}
 use Rattle.grammar.specs.Grammar.{items_of}
@@ -54,7 +54,7 @@ pub record Skipped (t : List ℕ) (from r : ℕ) : Type 0 where
   pub above : from ≤ r
   pub within : r ≤ length t
   pub sections : sections_from t from ≡ sections_from t r
-  pub records : records_from t from ≡ dumpRecords (lines (part_of t from r))
+  pub records : records_from t from ≡ dump_records (lines (part_of t from r))
   pub stands : Stands t r
 
 -- the line after one that ends at e starts at r
@@ -70,11 +70,11 @@ pub record PastMark (t : List ℕ) (at k r : ℕ) : Type 0 where
 
 -- the words of a path dump
 unfoldable pub path_words : List ℕ → List ℕ
-path_words s = words (map path_group (sort offset (dumpRecords (lines s))))
+path_words s = words (map path_group (sort offset (dump_records (lines s))))
 
 -- the words of a marker line, the lines after it, and the sections after these
 unfoldable pub body_words : List ℕ → List ℕ → List Section → List ℕ
-body_words line body ss = marker_words (marker_of line) (dumpRecords (lines body)) ss
+body_words line body ss = marker_words (marker_of line) (dump_records (lines body)) ss
 
 -- words put at a place, and the next place
 pub record PutAt (ws : List ℕ) (k : ℕ) (out : List ℕ) (r : ℕ) (out' : List ℕ) : Type 0 where

@@ -9,7 +9,7 @@ use lib.Dec.{eqb}
 use lib.ListN.{length, length-append}
 use Rattle.refusal.specs.Outcome.{Outcome, refused, value, bind}
 use Rattle.usb4.specs.declared.TunnelType.{TunnelType}
-use Rattle.usb4.specs.declared.TunnelType.TheVariants as tunnelType
+use Rattle.usb4.specs.declared.TunnelType.TheVariants as tunnel_type
 use Rattle.tables.specs.Rows.{EntryRow, Rows}
 use Rattle.load.specs.Answers.{refused_by}
 use Rattle.load.specs.declared.Refusal.{Refusal}
@@ -106,10 +106,10 @@ two_paths t down up p a h w s ds us l e f g = same_plan t
     (ap (λ z. from z down ∷ from (start_of us) up ∷ []) e ∙ ap (λ z. from (at p a h) down ∷ from z up ∷ []) f)
 
 three_paths : (p a w : ℕ) (s : Stand) (vs ts rs : List EntryRow) → 0 < length vs → start_of vs ≡ at p a 9 → start_of ts ≡ at p a 8 → start_of rs ≡ s → w ≡ 1 + 2 * length vs
-    → planned (tunnel_of tunnelType.DisplayPort (path 2 vs ∷ path 3 ts ∷ path 4 rs ∷ []))
-    ≡ value (some (plan tunnelType.DisplayPort (leaves_by rs p a) (1 + w + (1 + 2 * length ts) + (1 + 2 * length rs)) (from (at p a 9) 2 ∷ from (at p a 8) 3 ∷ from s 4 ∷ [])))
+    → planned (tunnel_of tunnel_type.DisplayPort (path 2 vs ∷ path 3 ts ∷ path 4 rs ∷ []))
+    ≡ value (some (plan tunnel_type.DisplayPort (leaves_by rs p a) (1 + w + (1 + 2 * length ts) + (1 + 2 * length rs)) (from (at p a 9) 2 ∷ from (at p a 8) 3 ∷ from s 4 ∷ [])))
 unfolding bind tunnel_of plan_if plan_of path closed closed_by last_path tunnel_words from_of at
-three_paths p a w s vs ts rs l e f g k = same_plan tunnelType.DisplayPort
+three_paths p a w s vs ts rs l e f g k = same_plan tunnel_type.DisplayPort
     (back_to_lem vs rs l ∙ ap (λ (z : Stand). leaves_by rs z.place z.adapter) e)
     (omega (arith, k, paths_words_lem (path 2 vs) (path 3 ts ∷ path 4 rs ∷ []), paths_words_lem (path 3 ts) (path 4 rs ∷ []), paths_words_lem (path 4 rs) [], no_words))
     (ap (λ z. from z 2 ∷ from (start_of ts) 3 ∷ from (start_of rs) 4 ∷ []) e ∙ ap (λ z. from (at p a 9) 2 ∷ from z 3 ∷ from (start_of rs) 4 ∷ []) f ∙ ap (λ z. from (at p a 9) 2 ∷ from (at p a 8) 3 ∷ from z 4 ∷ []) g)
@@ -138,9 +138,9 @@ module _ (en ad ro ma : List ℕ) (p : ℕ) where
   draws_absent f g = record { answers = λ y t l. g t l; few = omega arith; three = omega arith }
 
 -- a ring's tunnel of one path
-pub one_answer : (w : ℕ) (s : Start) {a b d : Start} → a ≡ s → b ≡ s → d ≡ s → answer.Tunnel tunnelType.Dma false w 1 a b d ≡ one_path w s
+pub one_answer : (w : ℕ) (s : Start) {a b d : Start} → a ≡ s → b ≡ s → d ≡ s → answer.Tunnel tunnel_type.Dma false w 1 a b d ≡ one_path w s
 unfolding one_path
-one_answer w s {a} {b} {d} e f g = ap (λ z. answer.Tunnel tunnelType.Dma false w 1 z b d) e ∙ ap (λ z. answer.Tunnel tunnelType.Dma false w 1 s z d) f ∙ ap (λ z. answer.Tunnel tunnelType.Dma false w 1 s s z) g
+one_answer w s {a} {b} {d} e f g = ap (λ z. answer.Tunnel tunnel_type.Dma false w 1 z b d) e ∙ ap (λ z. answer.Tunnel tunnel_type.Dma false w 1 s z d) f ∙ ap (λ z. answer.Tunnel tunnel_type.Dma false w 1 s s z) g
 
 -- the last path
 module _ (en ad ro ma : List ℕ) (kind : TunnelType) (words paths : ℕ) (first second last : Start) (r : Walked) (f : Tallied en ad ro ma (stood last.place last.adapter last.hop) r) where
@@ -207,7 +207,7 @@ module _ (en ad ro ma : List ℕ) (p a words : ℕ) (r : Walked) (f : Tallied en
   aux_absent e = draws_absent en ad ro ma p _ (λ t l. sym (needed_none _ _ _ (tally_absent en ad ro ma _ r f t l e)))
 
   pub aux_path : (n q b h w : ℕ) (first second third : Start) (y : Planned) → r ≡ walked.Path n q b h → Words n w → first ≡ start_by (at p a 9) 2 → second ≡ start_by (at p a 8) 3 → third ≡ start_by (at q b 8) 4
-      → Draws en ad ro ma third.place (λ x. finished x tunnelType.DisplayPort (words + w) 3 first second third) y → Draws en ad ro ma p (λ x. auxiliary x p a words) y
+      → Draws en ad ro ma third.place (λ x. finished x tunnel_type.DisplayPort (words + w) 3 first second third) y → Draws en ad ro ma p (λ x. auxiliary x p a words) y
   unfolding auxiliary at start_by
   aux_path n q b h w first second third y e (m, k) i j o d = record {
     answers = λ v t l.
@@ -215,10 +215,10 @@ module _ (en ad ro ma : List ℕ) (p a words : ℕ) (r : Walked) (f : Tallied en
         let u = tally_path en ad ro ma _ r f t l n q b h e in
         let few = hops_few en ad ro ma _ r v f n q b h e in
         d.answers v t (omega (arith, ap (λ (s : Start). s.place) o, u.1.there, t.devices))
-        ∙ ap (λ s. finished x tunnelType.DisplayPort (words + w) 3 s second third) i
-        ∙ ap (λ s. finished x tunnelType.DisplayPort (words + w) 3 (start_by (at p a 9) 2) s third) j
-        ∙ ap (λ s. finished x tunnelType.DisplayPort (words + w) 3 (start_by (at p a 9) 2) (start_by (at p a 8) 3) s) (o ∙ ap (λ s. start_by s 4) (sym (u.1.leave 8)))
-        ∙ ap (λ c. finished x tunnelType.DisplayPort (words + c) 3 (start_by (at p a 9) 2) (start_by (at p a 8) 3) (start_by (leaving 8 u.0) 4)) (k (omega (arith, few)) ∙ ap (λ c. 1 + 2 * c) (sym u.1.count))
+        ∙ ap (λ s. finished x tunnel_type.DisplayPort (words + w) 3 s second third) i
+        ∙ ap (λ s. finished x tunnel_type.DisplayPort (words + w) 3 (start_by (at p a 9) 2) s third) j
+        ∙ ap (λ s. finished x tunnel_type.DisplayPort (words + w) 3 (start_by (at p a 9) 2) (start_by (at p a 8) 3) s) (o ∙ ap (λ s. start_by s 4) (sym (u.1.leave 8)))
+        ∙ ap (λ c. finished x tunnel_type.DisplayPort (words + c) 3 (start_by (at p a 9) 2) (start_by (at p a 8) 3) (start_by (leaving 8 u.0) 4)) (k (omega (arith, few)) ∙ ap (λ c. 1 + 2 * c) (sym u.1.count))
         ∙ sym (needed_path x (at p a 8) u.0 _ u.1.walk);
     few = d.few;
     three = d.three;

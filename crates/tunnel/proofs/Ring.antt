@@ -8,7 +8,7 @@ use native.Mathlib.Omega.{arith}
 use lib.Dec.{eqb}
 use lib.ListN.{length}
 use Rattle.refusal.specs.Outcome.{Outcome, refused, value, bind}
-use Rattle.usb4.specs.declared.TunnelType.TheVariants as tunnelType
+use Rattle.usb4.specs.declared.TunnelType.TheVariants as tunnel_type
 use Rattle.tables.specs.Rows.{EntryRow, DeviceRow, Rows}
 use Rattle.load.specs.declared.Refusal.{Refusal}
 use Rattle.load.proofs.Result.{refused_bind}
@@ -95,7 +95,7 @@ alone_plan_lem : (o : Outcome Receive) → Hops o → bind (said o) (λ v. value
 unfolding bind said_of alone_plan one_plan ring_tunnel tx_path with_paths plan_if leaving_by start_of
 alone_plan_lem (refused n vs) k = refl
 alone_plan_lem (value (received [])) k = absurd k
-alone_plan_lem (value (received (h ∷ hs))) k = sym (one_plan_lem tunnelType.Dma 8 (stand_of h) (h ∷ hs) refl)
+alone_plan_lem (value (received (h ∷ hs))) k = sym (one_plan_lem tunnel_type.Dma 8 (stand_of h) (h ∷ hs) refl)
 alone_plan_lem (value nothing) k = refl
 alone_plan_lem (value lost) k = refl
 
@@ -104,8 +104,8 @@ with_plan_lem : (p a ring w : ℕ) (ts : List EntryRow) (o : Outcome Receive) �
 unfolding bind said_of with_plan one_plan ring_tunnel tx_path with_paths plan_if leaving_by start_of tunnel_of leaves_by at
 with_plan_lem p a ring w ts (refused n vs) l e f k = refl
 with_plan_lem p a ring w ts (value (received [])) l e f k = absurd k
-with_plan_lem p a ring w ts (value (received (h ∷ hs))) l e f k = sym (two_paths tunnelType.Dma 7 8 p a ring w (stand_of h) ts (h ∷ hs) l e refl f)
-with_plan_lem p a ring w ts (value nothing) l e f k = ap (λ c. value (some (plan tunnelType.Dma false (1 + c) (from (at p a ring) 7 ∷ [])))) f ∙ sym (one_plan_lem tunnelType.Dma 7 (at p a ring) ts e)
+with_plan_lem p a ring w ts (value (received (h ∷ hs))) l e f k = sym (two_paths tunnel_type.Dma 7 8 p a ring w (stand_of h) ts (h ∷ hs) l e refl f)
+with_plan_lem p a ring w ts (value nothing) l e f k = ap (λ c. value (some (plan tunnel_type.Dma false (1 + c) (from (at p a ring) 7 ∷ [])))) f ∙ sym (one_plan_lem tunnel_type.Dma 7 (at p a ring) ts e)
 with_plan_lem p a ring w ts (value lost) l e f k = refl
 
 -- ---- what is answered of the search
@@ -136,7 +136,7 @@ module _ (en ad ro ma : List ℕ) (ring : ℕ) (r : Received) (f : Receives en a
   unfolding received_outcome planned_outcome words_by paths_by alone_plan one_path one_plan start_by from_by at
   alone_path q n h k o b w y e (m, g) i = subst (Draws en ad ro ma 0 (λ x. ring_by x ring alone_plan)) (sym i)
       (ring_says alone_plan _ (one_path (1 + w) (start_by (at q n h) 8)) (ap (received_outcome ring) e)
-      (λ z. ap (λ c. value (some (plan tunnelType.Dma false (1 + c) (from (at q n h) 8 ∷ [])))) (g (omega (arith, few_hops q n h k o b e z))))
+      (λ z. ap (λ c. value (some (plan tunnel_type.Dma false (1 + c) (from (at q n h) 8 ∷ [])))) (g (omega (arith, few_hops q n h k o b e z))))
       (omega arith) (omega arith))
 
   module _ (p a words : ℕ) (few : words ≤ 131072) where
@@ -150,11 +150,11 @@ module _ (en ad ro ma : List ℕ) (ring : ℕ) (r : Received) (f : Receives en a
         (ring_says (with_plan (at p a ring) words) said-none (one_path words (start_by (at p a ring) 7)) (ap (received_outcome ring) e) (λ z. refl) (omega arith) (omega arith))
 
     pub with_path_lem : (q n h k o b w : ℕ) (c : Bool) (first second third : Start) → r ≡ found.Path q n h k o b → Words k w → c ≡ (eqb o p && eqb b a) → first ≡ start_by (at p a ring) 7 → second ≡ start_by (at q n h) 8
-        → Draws en ad ro ma 0 (λ x. ring_by x ring (with_plan (at p a ring) words)) (answer.Tunnel tunnelType.Dma c (words + w) 2 first second third)
+        → Draws en ad ro ma 0 (λ x. ring_by x ring (with_plan (at p a ring) words)) (answer.Tunnel tunnel_type.Dma c (words + w) 2 first second third)
     unfolding received_outcome planned_outcome words_by paths_by with_plan start_by from_by at
     with_path_lem q n h k o b w c first second third e (m, g) i j v =
         ring_says (with_plan (at p a ring) words) _ _ (ap (received_outcome ring) e)
-        (λ z. same_plan tunnelType.Dma i (ap (λ d. words + d) (g (omega (arith, few_hops q n h k o b e z)))) (ap (λ s. from_by s ∷ from_by second ∷ []) j ∙ ap (λ s. from (at p a ring) 7 ∷ from_by s ∷ []) v))
+        (λ z. same_plan tunnel_type.Dma i (ap (λ d. words + d) (g (omega (arith, few_hops q n h k o b e z)))) (ap (λ s. from_by s ∷ from_by second ∷ []) j ∙ ap (λ s. from (at p a ring) 7 ∷ from_by s ∷ []) v))
         (omega arith) (omega arith)
 
 -- ---- a ring's tunnel

@@ -6,7 +6,7 @@ use Rattle.refusal.specs.Outcome.{Outcome, value, bind}
 use Rattle.usb4.specs.declared.AdapterType.{AdapterType}
 use Rattle.usb4.specs.declared.AdapterType.TheVariants as type
 use Rattle.usb4.specs.declared.TunnelType.{TunnelType}
-use Rattle.usb4.specs.declared.TunnelType.TheVariants as tunnelType
+use Rattle.usb4.specs.declared.TunnelType.TheVariants as tunnel_type
 use Rattle.state.specs.State.{is_enabled}
 use Rattle.adapter.specs.Adapter.{AdapterRow, min_hop}
 use Rattle.tables.specs.Rows.{EntryRow, Rows}
@@ -50,7 +50,7 @@ down_and_up x t down up p a = needed x (at p a 8) (λ ds. needed x (leaving 8 ds
 -- DisplayPort: Video at HopID 9, AUX TX at 8, then AUX RX at 8 from where AUX TX leaves
 unfoldable pub display_port : Rows → ℕ → ℕ → Outcome (Option Tunnel)
 display_port x p a =
-    needed x (at p a 9) (λ vs. needed x (at p a 8) (λ ts. needed x (leaving 8 ts) (λ rs. tunnel_of tunnelType.DisplayPort (path 2 vs ∷ path 3 ts ∷ path 4 rs ∷ []))))
+    needed x (at p a 9) (λ vs. needed x (at p a 8) (λ ts. needed x (leaving 8 ts) (λ rs. tunnel_of tunnel_type.DisplayPort (path 2 vs ∷ path 3 ts ∷ path 4 rs ∷ []))))
 
 -- a ring's paths: DMA TX, DMA RX, each if it is there
 unfoldable pub tx_path : Option (List EntryRow) → List Path
@@ -60,7 +60,7 @@ tx_path (some hs) = path 7 hs ∷ []
 -- a ring's tunnel has a path
 unfoldable pub with_paths : List Path → Option Tunnel
 with_paths [] = none
-with_paths (p ∷ ps) = some (record { type = tunnelType.Dma; paths = p ∷ ps })
+with_paths (p ∷ ps) = some (record { type = tunnel_type.Dma; paths = p ∷ ps })
 
 -- where a lane adapter is missing the tunnel is dropped, and its DMA TX path with it
 unfoldable pub ring_tunnel : Option (List EntryRow) → Receive → Option Tunnel
@@ -98,9 +98,9 @@ of_kind x p y type.Lane = value none
 of_kind x p y type.HostInterface = dma x p y
 of_kind x p y type.DisplayPortIn = bind (display_port x p y.number) alone
 of_kind x p y type.DisplayPortOut = value none
-of_kind x p y type.PcieDown = bind (down_and_up x tunnelType.Pcie 5 6 p y.number) alone
+of_kind x p y type.PcieDown = bind (down_and_up x tunnel_type.Pcie 5 6 p y.number) alone
 of_kind x p y type.PcieUp = value none
-of_kind x p y type.Usb3Down = bind (down_and_up x tunnelType.Usb3 0 1 p y.number) alone
+of_kind x p y type.Usb3Down = bind (down_and_up x tunnel_type.Usb3 0 1 p y.number) alone
 of_kind x p y type.Usb3Up = value none
 of_kind x p y type.Usb3GenTDown = value none
 of_kind x p y type.Usb3GenTUp = value none

@@ -3,7 +3,7 @@ use Rattle.std.specs.Prelude.{ℕ, ◌+◌, ◌*◌, ◌≤◌, ◌<◌, ◌≡�
 use Rattle.std.proofs.Math.Option.{Option, none, some}
 use Rattle.refusal.specs.Outcome.{Outcome, value, bind}
 use Rattle.usb4.specs.declared.TunnelType.{TunnelType}
-use Rattle.usb4.specs.declared.TunnelType.TheVariants as tunnelType
+use Rattle.usb4.specs.declared.TunnelType.TheVariants as tunnel_type
 use Rattle.tables.specs.Rows.{EntryRow, Rows}
 use Rattle.walk.specs.Walking.{Stand}
 use Rattle.walk.specs.Tables.{rows_of, Tabled, last_of}
@@ -40,14 +40,14 @@ finished x t w n a b d = needed x (at d.place d.adapter d.hop) (λ hs. value (so
 -- AUX TX and AUX RX after w words
 unfoldable pub auxiliary : Rows → ℕ → ℕ → ℕ → Outcome (Option Plan)
 auxiliary x p a w =
-    needed x (at p a 8) (λ ts. finished x tunnelType.DisplayPort (w + (1 + 2 * length ts)) 3 (start_by (at p a 9) 2) (start_by (at p a 8) 3) (start_by (leaving 8 ts) 4))
+    needed x (at p a 8) (λ ts. finished x tunnel_type.DisplayPort (w + (1 + 2 * length ts)) 3 (start_by (at p a 9) 2) (start_by (at p a 8) 3) (start_by (leaving 8 ts) 4))
 
 -- a ring's tunnel of one path
 unfoldable pub one_path : ℕ → Start → Planned
-one_path w s = planned.Tunnel tunnelType.Dma false w 1 s s s
+one_path w s = planned.Tunnel tunnel_type.Dma false w 1 s s s
 
 unfoldable pub one_plan : ℕ → Stand → ℕ → Plan
-one_plan w s n = record { type = tunnelType.Dma; closed = false; words = w; starts = record { stand = s; name = n } ∷ [] }
+one_plan w s n = record { type = tunnel_type.Dma; closed = false; words = w; starts = record { stand = s; name = n } ∷ [] }
 
 -- by what the search for its receive path says: a ring without a DMA TX path, and one with it, from s, and w words before the other
 unfoldable pub alone_plan : Said → Option Plan
@@ -57,7 +57,7 @@ alone_plan dropped = none
 
 unfoldable pub with_plan : Stand → ℕ → Said → Option Plan
 with_plan s w (path u l) = some (record {
-  type = tunnelType.Dma;
+  type = tunnel_type.Dma;
   closed = eqb l.place s.place && eqb l.adapter s.adapter;
   words = w + (1 + 2 * l.hops);
   starts = record { stand = s; name = 7 } ∷ record { stand = u; name = 8 } ∷ [];

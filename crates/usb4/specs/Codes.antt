@@ -1,7 +1,7 @@
 -- Document 01, module 2: the codes that registers hold, as tb_regs.h and the Rust's usb4.rs give them. Assumes nothing.
 use Rattle.std.specs.Prelude.{ℕ, cond, eqb}
 use Rattle.usb4.specs.declared.AdapterType.{AdapterType}
-use Rattle.usb4.specs.declared.AdapterType.TheVariants as adapterType
+use Rattle.usb4.specs.declared.AdapterType.TheVariants as adapter_type
 use Rattle.usb4.specs.declared.State.{State}
 use Rattle.usb4.specs.declared.State.TheVariants as state
 use Rattle.usb4.specs.declared.Speed.{Speed}
@@ -16,17 +16,17 @@ route_shift = 8
 -- adapter types, by bits 0 to 23 of ADP_CS_2
 unfoldable pub type_of : ℕ → AdapterType
 type_of code =
-    cond (eqb code 0) adapterType.Inactive
-    (cond (eqb code 1) adapterType.Lane
-    (cond (eqb code 2) adapterType.HostInterface
-    (cond (eqb code 0xe0101) adapterType.DisplayPortIn
-    (cond (eqb code 0xe0102) adapterType.DisplayPortOut
-    (cond (eqb code 0x100101) adapterType.PcieDown
-    (cond (eqb code 0x100102) adapterType.PcieUp
-    (cond (eqb code 0x200101) adapterType.Usb3Down
-    (cond (eqb code 0x200102) adapterType.Usb3Up
-    (cond (eqb code 0x210101) adapterType.Usb3GenTDown
-    (cond (eqb code 0x210102) adapterType.Usb3GenTUp adapterType.Unknown))))))))))
+    cond (eqb code 0) adapter_type.Inactive
+    (cond (eqb code 1) adapter_type.Lane
+    (cond (eqb code 2) adapter_type.HostInterface
+    (cond (eqb code 0xe0101) adapter_type.DisplayPortIn
+    (cond (eqb code 0xe0102) adapter_type.DisplayPortOut
+    (cond (eqb code 0x100101) adapter_type.PcieDown
+    (cond (eqb code 0x100102) adapter_type.PcieUp
+    (cond (eqb code 0x200101) adapter_type.Usb3Down
+    (cond (eqb code 0x200102) adapter_type.Usb3Up
+    (cond (eqb code 0x210101) adapter_type.Usb3GenTDown
+    (cond (eqb code 0x210102) adapter_type.Usb3GenTUp adapter_type.Unknown))))))))))
 
 -- lane states, by bits 26 to 29 of LANE_ADP_CS_1
 unfoldable pub lane_state_of : ℕ → State

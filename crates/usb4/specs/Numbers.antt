@@ -1,7 +1,7 @@
 -- The number of each case, in the order of the Rust's enums. Assumes nothing.
 use Rattle.std.specs.Prelude.{ℕ}
 use Rattle.usb4.specs.declared.AdapterType.{AdapterType}
-use Rattle.usb4.specs.declared.AdapterType.TheVariants as adapterType
+use Rattle.usb4.specs.declared.AdapterType.TheVariants as adapter_type
 use Rattle.usb4.specs.declared.State.{State}
 use Rattle.usb4.specs.declared.State.TheVariants as state
 use Rattle.usb4.specs.declared.Speed.{Speed}
@@ -9,21 +9,21 @@ use Rattle.usb4.specs.declared.Speed.TheVariants as speed
 use Rattle.usb4.specs.declared.Kind.{Kind}
 use Rattle.usb4.specs.declared.Kind.TheVariants as kind
 use Rattle.usb4.specs.declared.TunnelType.{TunnelType}
-use Rattle.usb4.specs.declared.TunnelType.TheVariants as tunnelType
+use Rattle.usb4.specs.declared.TunnelType.TheVariants as tunnel_type
 
 abbrev pub type_number : AdapterType → ℕ
-type_number adapterType.Unknown = 0
-type_number adapterType.Inactive = 1
-type_number adapterType.Lane = 2
-type_number adapterType.HostInterface = 3
-type_number adapterType.DisplayPortIn = 4
-type_number adapterType.DisplayPortOut = 5
-type_number adapterType.PcieDown = 6
-type_number adapterType.PcieUp = 7
-type_number adapterType.Usb3Down = 8
-type_number adapterType.Usb3Up = 9
-type_number adapterType.Usb3GenTDown = 10
-type_number adapterType.Usb3GenTUp = 11
+type_number adapter_type.Unknown = 0
+type_number adapter_type.Inactive = 1
+type_number adapter_type.Lane = 2
+type_number adapter_type.HostInterface = 3
+type_number adapter_type.DisplayPortIn = 4
+type_number adapter_type.DisplayPortOut = 5
+type_number adapter_type.PcieDown = 6
+type_number adapter_type.PcieUp = 7
+type_number adapter_type.Usb3Down = 8
+type_number adapter_type.Usb3Up = 9
+type_number adapter_type.Usb3GenTDown = 10
+type_number adapter_type.Usb3GenTUp = 11
 
 abbrev pub state_number : State → ℕ
 state_number state.Unknown = 0
@@ -52,7 +52,7 @@ device_kind_number kind.Service = 4
 device_kind_number kind.Unknown = 5
 
 abbrev pub tunnel_number : TunnelType → ℕ
-tunnel_number tunnelType.Usb3 = 0
-tunnel_number tunnelType.DisplayPort = 1
-tunnel_number tunnelType.Pcie = 2
-tunnel_number tunnelType.Dma = 3
+tunnel_number tunnel_type.Usb3 = 0
+tunnel_number tunnel_type.DisplayPort = 1
+tunnel_number tunnel_type.Pcie = 2
+tunnel_number tunnel_type.Dma = 3

@@ -18,13 +18,13 @@ pub bounds-output-i : goal.bounds-output-i
 bounds-output-i c = omega (arith, c.loop-i.invariant.long, c.loop-i-test.true)
 
 pub overflow_cast-output : goal.overflow_cast-output
-overflow_cast-output c = omega (arith, c.loop-i.invariant.hop_id_lem)
+overflow_cast-output c = omega (arith, c.loop-i.invariant.hop_id)
 
 pub overflow_mul-output-in-loop-i : goal.overflow_mul-output-in-loop-i
-overflow_mul-output-in-loop-i c = omega (arith, c.loop-i.invariant.hop_id_lem)
+overflow_mul-output-in-loop-i c = omega (arith, c.loop-i.invariant.hop_id)
 
 pub overflow_add-output-in-loop-i : goal.overflow_add-output-in-loop-i
-overflow_add-output-in-loop-i c = omega (arith, c.loop-i.invariant.hop_id_lem)
+overflow_add-output-in-loop-i c = omega (arith, c.loop-i.invariant.hop_id)
 
 pub bounds-output-i-in-loop-i : goal.bounds-output-i-in-loop-i
 bounds-output-i-in-loop-i c = omega (arith, c.loop-i.invariant.long, c.loop-i-test.true, length-set c.loop-i.output (1 + 2 * c.loop-i.i) c.hop_word.result)
