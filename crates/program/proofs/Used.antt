@@ -6,7 +6,7 @@ use mathlib.Core.List.{List}
 use mir.Val.{Val}
 use denote.Laws.{Is}
 use denote.Struct.Declared as struct
-use lib.ListN.{length, length-map}
+use lib.ListN.{length}
 use Rattle.program.specs.Opened.{Used, UsedBy, Opens}
 use Rattle.program.specs.declared.Opened.{Opened}
 use Rattle.program.specs.declared.OpenAnswer.TheVariants as answer
@@ -24,8 +24,8 @@ pub record Held (o : Opened) (e a d : ℕ) : Type 0 where
 
 pub held : {t : List ℕ} {o : Opened} {vs : List Val} {e a d n : ℕ} → Is (struct.row opened-type.the_type) o vs → Opens t o → o.answer ≡ answer.Tables e a d n → Held o e a d
 held {t} {o} i h g = let u = used h g in record {
-  entries = omega (arith, u.entries, sym (length-map o.entries (λ v. v)) ∙ i.1.1.1.0.1.0.1);
-  adapters = omega (arith, u.adapters, sym (length-map o.adapters (λ v. v)) ∙ i.1.1.1.1.0.1.0.1);
-  routes = omega (arith, u.devices, sym (length-map o.routes (λ v. v)) ∙ i.1.1.1.1.1.0.1.0.1);
-  marks = omega (arith, u.devices, sym (length-map o.marks (λ v. v)) ∙ i.1.1.1.1.1.1.0.1.0.1);
+  entries = omega (arith, u.entries, i.1.1.1.0.1.0.1);
+  adapters = omega (arith, u.adapters, i.1.1.1.1.0.1.0.1);
+  routes = omega (arith, u.devices, i.1.1.1.1.1.0.1.0.1);
+  marks = omega (arith, u.devices, i.1.1.1.1.1.1.0.1.0.1);
 }

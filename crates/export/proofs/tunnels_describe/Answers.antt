@@ -1,0 +1,6 @@
+use mathlib.Core.Path.{ap, ◌∙◌}
+use Rattle.answers.specs.Said.{said, perhaps, one}
+use Rattle.export.proofs.tunnels_describe.Goals as goal
+
+pub returns : goal.returns
+returns c = c.described-a.ensures ∙ ap (λ o. said (perhaps one o)) c.describe.ensures

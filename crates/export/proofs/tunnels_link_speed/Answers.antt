@@ -1,0 +1,7 @@
+use mathlib.Core.Path.{ap, ◌∙◌}
+use Rattle.answers.specs.Said.{said, always}
+use Rattle.replies.specs.Replies.{speed_words}
+use Rattle.export.proofs.tunnels_link_speed.Goals as goal
+
+pub returns : goal.returns
+returns c = c.link_speed-a.ensures ∙ ap (λ o. said (always speed_words o)) c.link_speed.ensures
