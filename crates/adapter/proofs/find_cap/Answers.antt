@@ -21,7 +21,7 @@ loop-i-smaller c = seek_less _ _ _ _ c.loop-i-test.true c.next_register-i-in-loo
 pub loop-i-preserved : goal.loop-i-preserved
 loop-i-preserved c = let h = c.loop-i.invariant in let l = c.loop-i-test.true in let e = c.word_at.ensures in let n = c.next_register-i-in-loop-i.ensures in
     elim c.if-word_at-cap.branch [
-      then-word_at-cap+then-start-lt1 w ↦ laws.seek_first _ _ _ _ _ _ _ h l _ e _ n w.if-word_at-cap.true w.if-start-lt1.true _ _ w.start-is w.end-is
+      | then-word_at-cap+then-start-lt1 w ↦ laws.seek_first _ _ _ _ _ _ _ h l _ e _ n w.if-word_at-cap.true w.if-start-lt1.true _ _ w.start-is w.end-is
       | then-word_at-cap+else-start-lt1 w ↦ laws.seek_again _ _ _ _ _ _ _ h l _ e _ n w.if-word_at-cap.true w.if-start-lt1.false _ _ w.start-is w.end-is
       | else-word_at-cap w ↦ laws.seek_pass _ _ _ _ _ _ _ h l _ e _ n w.if-word_at-cap.false _ _ w.start-is w.end-is
     ]

@@ -23,7 +23,7 @@ loop-i-preserved c = let a = c.args in (
   c.loop-i.invariant.1
       ∙ router_on a.routes.now a.marks.now a.domain a.route c.loop-i.i (omega arith) (omega arith)
       (elim c.if-routes-i.branch [
-        then-routes-i+then-mark-eq1+else-mark-domain w ↦ λ p q r. w.if-mark-domain.false r
+        | then-routes-i+then-mark-eq1+else-mark-domain w ↦ λ p q r. w.if-mark-domain.false r
         | then-routes-i+else-mark-eq1 w ↦ λ p q r. w.if-mark-eq1.false q
         | else-routes-i w ↦ λ p q r. w.if-routes-i.false p
       ]),
