@@ -1,6 +1,8 @@
 // Replays the cases of data/, of reading numbers, lines, dumps, descriptions and survey words and of routes, and writes a line of totals for each file: cases, how many agree and
 // differ, and the line of the first that differs. One answer in each file is wrong on purpose, so
 // each line of totals says `differ 1` and where.
+#![tactic(auto)]
+
 mod answer;
 mod case;
 mod names;
@@ -8,11 +10,14 @@ mod routes;
 mod rule;
 mod surveys;
 
-ghost use Rattle.std.specs.Prelude.{◌<◌, ◌≤◌, length};
+ghost use Rattle.std.specs.Prelude.{◌<◌, ◌≤◌, length, take, IfOk};
+ghost use Rattle.std.specs.Io.KnownBytes.{Consumes, IsAtEnd};
 
 use case::Input;
-use libc::STDOUT_FILENO;
 use names::Step;
+use std::io::Read;
+use std::rt::Files;
+use std::{fs, io};
 
 #[derive(Clone, Copy)]
 enum Kind {
@@ -152,48 +157,60 @@ fn count_cases(of: Cases, text: &[u8], words: &mut [u32]) -> Totals {
     }
 }
 
-fn print_count(words: &[u8], n: usize) {
-    io::write_all(STDOUT_FILENO, words);
-    io::print_decimal(STDOUT_FILENO, n as u64);
+fn print_count(rt: &impl Print, words: &str, n: usize) -> io::Result<()> {
+    print!(rt; "{words}{n}")
+}
+
+// Reads until `text` is full or the input ends, and says how many bytes it put at the start of `text`.
+fn read_full<R: Read>(from: &mut R, text: &mut [u8]) -> io::Result<usize>
+    ensures within { IfOk result (λ n. n ≤ length text.new) }
+    ensures bytes { IfOk result (λ n. Consumes (R.remaining from.old) (R.remaining from.new) (take n text.new)) }
+    ensures end { IfOk result (λ n. n < length text.new → IsAtEnd (R.remaining from.new)) }
+{
+    let mut n = 0;
+    while n < text.len() {
+        let more = from.read(&mut text[n..])?;
+        if more == 0 {
+            return Ok(n);
+        }
+        n += more;
+    }
+    Ok(n)
 }
 
 // Replays the file of that name. One that is missing or too long says so instead of totals.
-fn replay(name: &[u8], of: Cases) {
-    io::write_all(STDOUT_FILENO, name);
-    let fd = os::open_read(name);
-    if fd < 0 {
-        io::write_all(STDOUT_FILENO, b" missing\n");
-        return;
-    }
+fn replay(rt: &(impl Files + Print), name: &str, of: Cases) -> io::Result<()> {
+    rt.print(name)?;
+    let Ok(mut file) = fs::open(rt, name) else {
+        return rt.print(" missing\n");
+    };
     let mut text = case::room();
-    let n = io::read_full(fd, &mut text);
-    libc::close(fd);
+    let n = read_full(&mut file, &mut text)?;
     if n == 1000000 {
-        io::write_all(STDOUT_FILENO, b" too long\n");
-        return;
+        return rt.print(" too long\n");
     }
     let mut words = [0u32; 16400];
     let t = count_cases(of, &text[..n], &mut words);
-    print_count(b" ", t.cases);
-    print_count(b" agree ", t.agree);
-    print_count(b" differ ", t.differ);
-    print_count(b" at ", t.first);
-    io::write_all(STDOUT_FILENO, b"\n");
+    print_count(rt, " ", t.cases)?;
+    print_count(rt, " agree ", t.agree)?;
+    print_count(rt, " differ ", t.differ)?;
+    print_count(rt, " at ", t.first)?;
+    rt.print("\n")
 }
 
-fn main() {
-    replay(b"lines", Cases::Each(Kind::Line));
-    replay(b"hex16", Cases::Each(Kind::Hex(65535)));
-    replay(b"hex32", Cases::Each(Kind::Hex(4294967295)));
-    replay(b"hex64", Cases::Each(Kind::Hex(18446744073709551615)));
-    replay(b"dec16", Cases::Each(Kind::Decimal(65535)));
-    replay(b"dec32", Cases::Each(Kind::Decimal(4294967295)));
-    replay(b"dumps", Cases::Each(Kind::Dump));
-    replay(b"rules", Cases::Each(Kind::Rule));
-    replay(b"names", Cases::Named);
-    replay(b"places", Cases::Named);
-    replay(b"routes", Cases::Routes);
-    replay(b"beneath", Cases::Beneath);
-    replay(b"surveys", Cases::Surveys);
-    replay(b"groups", Cases::Groups);
+fn main(rt: HostRuntime) -> io::Result<()> {
+    replay(&rt, "lines", Cases::Each(Kind::Line))?;
+    replay(&rt, "hex16", Cases::Each(Kind::Hex(65535)))?;
+    replay(&rt, "hex32", Cases::Each(Kind::Hex(4294967295)))?;
+    replay(&rt, "hex64", Cases::Each(Kind::Hex(18446744073709551615)))?;
+    replay(&rt, "dec16", Cases::Each(Kind::Decimal(65535)))?;
+    replay(&rt, "dec32", Cases::Each(Kind::Decimal(4294967295)))?;
+    replay(&rt, "dumps", Cases::Each(Kind::Dump))?;
+    replay(&rt, "rules", Cases::Each(Kind::Rule))?;
+    replay(&rt, "names", Cases::Named)?;
+    replay(&rt, "places", Cases::Named)?;
+    replay(&rt, "routes", Cases::Routes)?;
+    replay(&rt, "beneath", Cases::Beneath)?;
+    replay(&rt, "surveys", Cases::Surveys)?;
+    replay(&rt, "groups", Cases::Groups)
 }
