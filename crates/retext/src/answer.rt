@@ -1,6 +1,6 @@
 // What the program prints of a text, page by page, against the stored answer: each call gives the index after the pairs of what is printed, or the stored
 // answer's length where others stand.
-ghost use Rattle.std.specs.Prelude.{◌≡◌, length};
+ghost use Rattle.std.specs.Prelude.{◌≤◌, ◌≡◌, length};
 
 use crate::case::after;
 use printed::Printed;
@@ -53,6 +53,32 @@ fn after_pages(
     i
 }
 
+// The index after all adapters' lines, by the parts of the tables that are used.
+fn after_tables(
+    stored: &[u8],
+    at: usize,
+    paths: &[u64],
+    table: &[u64],
+    routes: &[u64],
+    marks: &[u64],
+    entries: usize,
+    adapters: usize,
+    devices: usize,
+) -> usize
+    requires { (entries ≤ length paths.now) × (adapters ≤ length table.now) × (devices ≤ length routes.now) × (devices ≤ length marks.now) }
+{
+    let mut buffer = page_room();
+    after_pages(
+        stored,
+        at,
+        &paths[..entries],
+        &table[..adapters],
+        &routes[..devices],
+        &marks[..devices],
+        &mut buffer,
+    )
+}
+
 pub fn after_text(stored: &[u8], text: &[u8]) -> usize {
     let opened = program::open(text);
     let answer = opened.answer;
@@ -69,15 +95,8 @@ pub fn after_text(stored: &[u8], text: &[u8]) -> usize {
             let table = opened.adapters;
             let routes = opened.routes;
             let marks = opened.marks;
-            let mut buffer = page_room();
-            after_pages(
-                stored,
-                at,
-                &paths[..entries],
-                &table[..adapters],
-                &routes[..devices],
-                &marks[..devices],
-                &mut buffer,
+            after_tables(
+                stored, at, &paths, &table, &routes, &marks, entries, adapters, devices,
             )
         }
     }

@@ -1,11 +1,16 @@
 // Replays the texts of data/ by the calls of the program `tunnels` and writes a line of totals for each file: cases, how many agree and differ, and the
 // line of the first that differs. One answer in each file is wrong on purpose, so each line of totals says `differ 1` and where.
+#![tactic(auto)]
+
 mod answer;
 mod case;
 
-ghost use Rattle.std.specs.Prelude.{◌+◌, ◌<◌, ◌≤◌, ◌≡◌, length};
+ghost use Rattle.std.specs.Prelude.{◌+◌, ◌<◌, ◌≤◌, ◌≡◌, length, take, IfOk};
+ghost use Rattle.std.specs.Io.KnownBytes.{Consumes, IsAtEnd};
 
-use libc::STDOUT_FILENO;
+use std::io::Read;
+use std::rt::Files;
+use std::{fs, io};
 
 // `first` is the line of the first case that differs, from 1 on; 0 where all agree.
 #[derive(Clone, Copy)]
@@ -83,37 +88,49 @@ fn count_cases(text: &[u8]) -> Totals
     t
 }
 
-fn write_count(words: &[u8], n: usize) {
-    io::write_all(STDOUT_FILENO, words);
-    io::print_decimal(STDOUT_FILENO, n as u64);
+fn write_count(rt: &impl Print, words: &str, n: usize) -> io::Result<()> {
+    print!(rt; "{words}{n}")
+}
+
+// Reads until `text` is full or the input ends, and says how many bytes it put at the start of `text`.
+fn read_full<R: Read>(from: &mut R, text: &mut [u8]) -> io::Result<usize>
+    ensures within { IfOk result (λ n. n ≤ length text.new) }
+    ensures bytes { IfOk result (λ n. Consumes (R.remaining from.old) (R.remaining from.new) (take n text.new)) }
+    ensures end { IfOk result (λ n. n < length text.new → IsAtEnd (R.remaining from.new)) }
+{
+    let mut n = 0;
+    while n < text.len() {
+        let more = from.read(&mut text[n..])?;
+        if more == 0 {
+            return Ok(n);
+        }
+        n += more;
+    }
+    Ok(n)
 }
 
 // Replays the file of that name. One that is missing or too long says so instead of totals.
-fn replay(name: &[u8]) {
-    io::write_all(STDOUT_FILENO, name);
-    let fd = os::open_read(name);
-    if fd < 0 {
-        io::write_all(STDOUT_FILENO, b" missing\n");
-        return;
-    }
+fn replay(rt: &(impl Files + Print), name: &str) -> io::Result<()> {
+    rt.print(name)?;
+    let Ok(mut file) = fs::open(rt, name) else {
+        return rt.print(" missing\n");
+    };
     let mut text = file_room();
-    let n = io::read_full(fd, &mut text);
-    libc::close(fd);
+    let n = read_full(&mut file, &mut text)?;
     if n == 1000000 {
-        io::write_all(STDOUT_FILENO, b" too long\n");
-        return;
+        return rt.print(" too long\n");
     }
     let t = count_cases(&text[..n]);
-    write_count(b" ", t.cases);
-    write_count(b" agree ", t.cases - t.differ);
-    write_count(b" differ ", t.differ);
-    write_count(b" at ", t.first);
-    io::write_all(STDOUT_FILENO, b"\n");
+    write_count(rt, " ", t.cases)?;
+    write_count(rt, " agree ", t.cases - t.differ)?;
+    write_count(rt, " differ ", t.differ)?;
+    write_count(rt, " at ", t.first)?;
+    rt.print("\n")
 }
 
-fn main() {
-    replay(b"texts");
-    replay(b"other-texts");
-    replay(b"text-rules");
-    replay(b"text-limits");
+fn main(rt: HostRuntime) -> io::Result<()> {
+    replay(&rt, "texts")?;
+    replay(&rt, "other-texts")?;
+    replay(&rt, "text-rules")?;
+    replay(&rt, "text-limits")
 }

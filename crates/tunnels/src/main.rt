@@ -1,11 +1,15 @@
 // Reads the text of a survey from standard input and prints its tunnels, by our descriptions; or only `refused N`.
-ghost use Rattle.std.specs.Prelude.{◌≤◌, ◌≡◌, length};
+#![tactic(auto)]
+
+ghost use Rattle.std.specs.Prelude.{◌<◌, ◌≤◌, ◌≡◌, length, take, IfOk};
+ghost use Rattle.std.specs.Io.KnownBytes.{Consumes, IsAtEnd};
 ghost use Rattle.program.specs.Opened.{UsedBy};
 
-use libc::{STDIN_FILENO, STDOUT_FILENO};
 use printed::Printed;
 use program::{OpenAnswer, Opened};
 use report::Page;
+use std::io;
+use std::io::Read;
 
 // One byte more than a text may have, so that a longer one is seen. The contract says the length alone, which lending it as a slice needs.
 fn text_room() -> [u8; 65537]
@@ -28,49 +32,61 @@ fn small_room() -> [u8; 8192]
     [0; 8192]
 }
 
-fn write_refused(number: u8) {
+fn write_refused(rt: &impl Print, number: u8) -> io::Result<()> {
     let mut line = [0u8; 16];
     if let Printed::Bytes(n) = summary::refused(number, &mut line) {
-        io::write_all(STDOUT_FILENO, &line[..n]);
+        rt.write_all(&line[..n])?;
     }
+    Ok(())
 }
 
-fn write_total(tunnels: usize) {
+fn write_total(rt: &impl Print, tunnels: usize) -> io::Result<()> {
     let mut line = [0u8; 32];
     if let Printed::Bytes(n) = summary::total(tunnels, &mut line) {
-        io::write_all(STDOUT_FILENO, &line[..n]);
+        rt.write_all(&line[..n])?;
     }
+    Ok(())
 }
 
 // Writes an adapter's lines, by way of a buffer that holds any page.
-fn write_long_page(entries: &[u64], adapters: &[u64], routes: &[u64], marks: &[u64], index: usize) {
+fn write_long_page(
+    rt: &impl Print,
+    entries: &[u64],
+    adapters: &[u64],
+    routes: &[u64],
+    marks: &[u64],
+    index: usize,
+) -> io::Result<()> {
     let mut buffer = page_room();
     if let Page::Bytes(n) = report::put_page(entries, adapters, routes, marks, index, &mut buffer) {
-        io::write_all(STDOUT_FILENO, &buffer[..n]);
+        rt.write_all(&buffer[..n])?;
     }
+    Ok(())
 }
 
 // Writes an adapter's lines, and says whether the buffer has room for them; where it hasn't, nothing is written. None is refused here, since each was tried.
 fn write_page(
+    rt: &impl Print,
     entries: &[u64],
     adapters: &[u64],
     routes: &[u64],
     marks: &[u64],
     index: usize,
     buffer: &mut [u8],
-) -> bool {
+) -> io::Result<bool> {
     match report::put_page(entries, adapters, routes, marks, index, buffer) {
         Page::Bytes(n) => {
-            io::write_all(STDOUT_FILENO, &buffer[..n]);
-            true
+            rt.write_all(&buffer[..n])?;
+            Ok(true)
         }
-        Page::Short(_) => false,
-        Page::Refused(_) => true,
+        Page::Short(_) => Ok(false),
+        Page::Refused(_) => Ok(true),
     }
 }
 
 // Writes the lines of the adapters from one to before another, in order. It goes by halves and not by a loop: the compiler puts no large room into the frame of a function that calls itself. Otherwise the largest room would be in the frame of `main`, of which every page is touched in every run.
 fn write_pages(
+    rt: &impl Print,
     entries: &[u64],
     adapters: &[u64],
     routes: &[u64],
@@ -78,20 +94,30 @@ fn write_pages(
     from: usize,
     end: usize,
     buffer: &mut [u8],
-) {
+) -> io::Result<()> {
     if end <= from {
-        return;
+        return Ok(());
     }
     let middle = from + (end - from) / 2;
-    write_pages(entries, adapters, routes, marks, from, middle, buffer);
-    if !write_page(entries, adapters, routes, marks, middle, buffer) {
-        write_long_page(entries, adapters, routes, marks, middle);
+    write_pages(rt, entries, adapters, routes, marks, from, middle, buffer)?;
+    if !write_page(rt, entries, adapters, routes, marks, middle, buffer)? {
+        write_long_page(rt, entries, adapters, routes, marks, middle)?;
     }
-    write_pages(entries, adapters, routes, marks, middle + 1, end, buffer);
+    write_pages(
+        rt,
+        entries,
+        adapters,
+        routes,
+        marks,
+        middle + 1,
+        end,
+        buffer,
+    )
 }
 
 // Writes each adapter's lines, by the parts of the tables that are used.
 fn write_tables(
+    rt: &impl Print,
     paths: &[u64],
     table: &[u64],
     routes: &[u64],
@@ -99,11 +125,12 @@ fn write_tables(
     entries: usize,
     adapters: usize,
     devices: usize,
-)
+) -> io::Result<()>
     requires { (entries ≤ length paths.now) × (adapters ≤ length table.now) × (devices ≤ length routes.now) × (devices ≤ length marks.now) }
 {
     let mut buffer = small_room();
     write_pages(
+        rt,
         &paths[..entries],
         &table[..adapters],
         &routes[..devices],
@@ -111,11 +138,11 @@ fn write_tables(
         0,
         adapters,
         &mut buffer,
-    );
+    )
 }
 
 // Writes the lines of a text that was opened, or its refusal. This is a function of its own, so that its copies of the tables and those of loading, which has ended, get the same stack.
-fn write_opened(opened: Opened)
+fn write_opened(rt: &impl Print, opened: Opened) -> io::Result<()>
     requires { UsedBy opened opened.answer }
 {
     let answer = opened.answer;
@@ -124,31 +151,48 @@ fn write_opened(opened: Opened)
     let routes = opened.routes;
     let marks = opened.marks;
     match answer {
-        OpenAnswer::Refused(numbers) => write_refused(numbers.number),
+        OpenAnswer::Refused(numbers) => write_refused(rt, numbers.number),
         OpenAnswer::Tables {
             entries,
             adapters,
             devices,
             tunnels,
         } => {
-            write_total(tunnels);
+            write_total(rt, tunnels)?;
             let p = &paths;
             let t = &table;
             let r = &routes;
             let m = &marks;
-            write_tables(p, t, r, m, entries, adapters, devices);
+            write_tables(rt, p, t, r, m, entries, adapters, devices)
         }
     }
 }
 
 // Nothing is written before all adapters were tried.
-fn write_text(text: &[u8]) {
+fn write_text(rt: &impl Print, text: &[u8]) -> io::Result<()> {
     let opened = program::open(text);
-    write_opened(opened);
+    write_opened(rt, opened)
 }
 
-fn main() {
+// Reads until `text` is full or the input ends, and says how many bytes it put at the start of `text`.
+fn read_full<R: Read>(from: &mut R, text: &mut [u8]) -> io::Result<usize>
+    ensures within { IfOk result (λ n. n ≤ length text.new) }
+    ensures bytes { IfOk result (λ n. Consumes (R.remaining from.old) (R.remaining from.new) (take n text.new)) }
+    ensures end { IfOk result (λ n. n < length text.new → IsAtEnd (R.remaining from.new)) }
+{
+    let mut n = 0;
+    while n < text.len() {
+        let more = from.read(&mut text[n..])?;
+        if more == 0 {
+            return Ok(n);
+        }
+        n += more;
+    }
+    Ok(n)
+}
+
+fn main(rt: HostRuntime) -> io::Result<()> {
     let mut text = text_room();
-    let n = io::read_full(STDIN_FILENO, &mut text);
-    write_text(&text[..n]);
+    let n = read_full(&mut rt.stdin(), &mut text)?;
+    write_text(&rt, &text[..n])
 }
