@@ -2,27 +2,25 @@
 #![tactic(auto)]
 
 ghost use Rattle.std.specs.Prelude.{◌≡◌};
-ghost use Rattle.acceptance.specs.Accepted.{accepted_answer, accepted_outcome};
+ghost use Rattle.refusal.specs.Refusal.{outcome};
+ghost use Rattle.acceptance.specs.Accepted.{accepted_answer};
 
-use load::{LoadAnswer, Refusal};
+use refusal::Refusal;
 
-// Whether a survey is accepted: its devices and valid path entries, or why it is refused.
+// What a survey that is accepted has: its devices and valid path entries.
 #[derive(Clone, Copy)]
-pub enum Acceptance {
-    Survey { devices: usize, entries: usize },
-    Refused(Refusal),
+pub struct Acceptance {
+    pub devices: usize,
+    pub entries: usize,
 }
 
 // Whether a survey is accepted, and how many devices and valid path entries it has.
-pub fn accepted(descriptions: &[u32], survey: &[u32]) -> Acceptance
-    ensures { accepted_outcome result ≡ accepted_answer descriptions.now survey.now }
+pub fn accepted(descriptions: &[u32], survey: &[u32]) -> Result<Acceptance, Refusal>
+    ensures { outcome result ≡ accepted_answer descriptions.now survey.now }
 {
-    match load::accept(descriptions, survey) {
-        LoadAnswer::Refused(refusal) => Acceptance::Refused(refusal),
-        LoadAnswer::Tables {
-            entries,
-            adapters: _,
-            devices,
-        } => Acceptance::Survey { devices, entries },
-    }
+    let counts = load::accept(descriptions, survey)?;
+    Ok(Acceptance {
+        devices: counts.devices,
+        entries: counts.entries,
+    })
 }

@@ -3,7 +3,7 @@ use Prim.Native.Nat.{ℕ, suc, ◌+◌, ◌/◌, ◌%◌, ◌≤◌, ◌<◌}
 use mathlib.Core.Path.{◌≡◌, refl, sym, ap, ◌∙◌, subst}
 use mathlib.Core.List.{List, [], ◌∷◌}
 use mathlib.Core.Bool.{Bool, true, false, cond, not, ◌&&◌, ◌||◌}
-use mathlib.Core.Option.{Option, none, some}
+use Rattle.std.specs.Prelude.{Option, None, Some, Err, Ok, Result, is_some}
 use native.Mathlib.Omega.{arith}
 use native.Mathlib.Decide.{dec_lt}
 use native.Mathlib.Numerals.{add-one}
@@ -15,7 +15,7 @@ use Rattle.refusal.specs.Outcome.{value, bind}
 use Rattle.refusal.specs.Refusal.{refusal_of}
 use Rattle.refusal.specs.declared.Site.{Site}
 use Rattle.refusal.specs.declared.Fault.{Fault}
-use Rattle.refusal.specs.declared.Fault.TheVariants.{FewRegisters, NoField}
+use Rattle.refusal.specs.declared.Fault.TheVariants.{FewRegisters}
 use Rattle.util.specs.Bits.{bits_of}
 use Rattle.util.specs.Text.{bytes_of}
 use Rattle.usb4.specs.Codes.{type_of}
@@ -26,34 +26,23 @@ use Rattle.usb4.specs.declared.State.{State}
 use Rattle.layout.specs.Layout.{word}
 use Rattle.layout.specs.Description.{Description, described}
 use Rattle.fields.specs.Names.{find_field}
-use Rattle.fields.specs.declared.FieldFound.TheVariants.{Missing}
 use Rattle.metadata.specs.Calls.{value_in}
 use Rattle.register.specs.Line.{register_of}
 use Rattle.register.specs.declared.Register.{Register}
 use Rattle.survey.specs.Devices.{Adapter, register_in}
 use Rattle.listing.specs.After.{after, listed, register_at, adapter_at, NextRegister}
 use Rattle.listing.proofs.Laws.{after_end, register_end}
-use Rattle.named.specs.Named.{Named, adapter_space, by_name, sited, wanted_field, named_at, field_read}
-use Rattle.named.specs.declared.NamedFound.{NamedFound}
-use Rattle.named.specs.declared.NamedFound.TheVariants as named-found
-use Rattle.named.specs.declared.FieldRead.{FieldRead}
-use Rattle.named.specs.declared.FieldRead.TheVariants as field
+use Rattle.named.specs.Named.{Named, adapter_space, by_name, sited, wanted_field, named_at, named_in}
+use Rattle.refusal.specs.Refusal.{field_read}
+use Rattle.named.specs.declared.NamedAt.{NamedAt}
 use Rattle.state.specs.State.{state_of, link_speed, state_outcome, speed_outcome, of_kind}
-use Rattle.state.specs.declared.SpeedFound.{SpeedFound}
-use Rattle.state.specs.declared.StateFound.{StateFound}
-use Rattle.state.specs.declared.StateFound.TheVariants as state-found
-use Rattle.adapter.specs.Adapter.{third_value, kind_of, registers_of, indices_from, last_of, Part, between, find_cap, found, is_lane, cap_usb4, is_lane0, lane0_of, lane1_of, narrow, max_hop_in, max_hop, parse_state, AdapterRow, adapter_site, few_registers, row_of, decode_of, max_hop_outcome, cap_outcome, facts_row, decoded_outcome}
+use Rattle.adapter.specs.Adapter.{third_value, kind_of, registers_of, indices_from, last_of, between, find_cap, is_lane, cap_usb4, is_lane0, lane0_of, lane1_of, narrow, max_hop_in, max_hop, parse_state, AdapterRow, adapter_site, few_registers, row_of, decode_of, max_hop_outcome, facts_row, decoded_outcome}
+use Rattle.adapter.specs.declared.Part.{Part}
 use Rattle.adapter.specs.Work.{ThirdOf, KindIs, row_by}
 use Rattle.adapter.specs.declared.Facts.{Facts}
-use Rattle.adapter.specs.declared.Third.{Third}
-use Rattle.adapter.specs.declared.Third.TheVariants as third
-use Rattle.adapter.specs.declared.KindFound.{KindFound}
-use Rattle.adapter.specs.declared.KindFound.TheVariants as kind-found
-use Rattle.adapter.specs.declared.MaxHop.{MaxHop}
-use Rattle.adapter.specs.declared.MaxHop.TheVariants as most
-use Rattle.adapter.specs.declared.CapFound.{CapFound}
-use Rattle.adapter.specs.declared.CapFound.TheVariants as cap_found
-use Rattle.adapter.specs.declared.Decoded.TheVariants as decoded
+use Rattle.usb4.specs.declared.Speed.{Speed}
+use Rattle.refusal.specs.declared.FieldError.{FieldError}
+use Rattle.refusal.specs.declared.FieldError.TheVariants as field
 
 -- the registers from i on, by the first of them
 module _ (t : List ℕ) (i r : ℕ) (n : NextRegister t false i r) where
@@ -67,12 +56,12 @@ module _ (t : List ℕ) (i r : ℕ) (n : NextRegister t false i r) where
 
 -- the third register, by the three places
 module _ (t : List ℕ) (from a : ℕ) (na : NextRegister t false from a) where
-  pub third_none : length t ≤ a → ThirdOf (after t from).registers third.Few
+  pub third_none : length t ≤ a → ThirdOf (after t from).registers None
   unfolding ThirdOf
   third_none l = omega (arith, ap length (none_of t from a na l))
 
   module _ (la : a < length t) (b : ℕ) (nb : NextRegister t false (a + 4) b) where
-    pub third_one : length t ≤ b → ThirdOf (after t from).registers third.Few
+    pub third_one : length t ≤ b → ThirdOf (after t from).registers None
     unfolding ThirdOf
     third_one l = omega (arith, ap length (first_of t from a na la ∙ ap (λ rs. register_at t a ∷ rs) (none_of t (a + 4) b nb l)))
 
@@ -80,11 +69,11 @@ module _ (t : List ℕ) (from a : ℕ) (na : NextRegister t false from a) where
       two : (after t from).registers ≡ register_at t a ∷ register_at t b ∷ (after t (b + 4)).registers
       two = first_of t from a na la ∙ ap (λ rs. register_at t a ∷ rs) (first_of t (a + 4) b nb lb)
 
-      pub third_two : length t ≤ c → ThirdOf (after t from).registers third.Few
+      pub third_two : length t ≤ c → ThirdOf (after t from).registers None
       unfolding ThirdOf
       third_two l = omega (arith, ap length (two ∙ ap (λ rs. register_at t a ∷ register_at t b ∷ rs) (none_of t (b + 4) c nc l)))
 
-      pub third_is : c < length t → (v : ℕ) → v ≡ word t (c + 3) → ThirdOf (after t from).registers (third.Value v)
+      pub third_is : c < length t → (v : ℕ) → v ≡ word t (c + 3) → ThirdOf (after t from).registers (Some v)
       unfolding ThirdOf third_value register_at register_in register_of
       third_is l v e =
           let k = two ∙ ap (λ rs. register_at t a ∷ register_at t b ∷ rs) (first_of t (b + 4) c nc l) in
@@ -121,35 +110,35 @@ module _ (t : List ℕ) (i w : ℕ) (e : w ≡ word t i) where
 
 -- an adapter's kind
 module _ (a : Adapter) where
-  pub kind_unread : a.read ≡ false → KindIs a (kind-found.Kind type.Inactive)
+  pub kind_unread : a.read ≡ false → KindIs a (Some type.Inactive)
   unfolding KindIs few_registers kind_of
   kind_unread e = (ap (λ b. b && ltb (length a.registers) 3) e, sym (ap (λ b. cond b (type_of (bits_of (third_value a.registers) 0 23)) type.Inactive) e))
 
-  kind_few : a.read ≡ true → ThirdOf a.registers third.Few → KindIs a kind-found.Few
+  kind_few : a.read ≡ true → ThirdOf a.registers None → KindIs a None
   unfolding KindIs few_registers ThirdOf
   kind_few e l = ap (λ b. b && ltb (length a.registers) 3) e ∙ lt-ltb (length a.registers) 3 l
 
-  kind_is : a.read ≡ true → (v : ℕ) → ThirdOf a.registers (third.Value v) → KindIs a (kind-found.Kind (type_of (bits_of v 0 23)))
+  kind_is : a.read ≡ true → (v : ℕ) → ThirdOf a.registers (Some v) → KindIs a (Some (type_of (bits_of v 0 23)))
   unfolding KindIs few_registers kind_of ThirdOf
   kind_is e v h = (
     ap (λ x. x && ltb (length a.registers) 3) e ∙ le-ltb (length a.registers) 3 h.0,
     ap (λ z. type_of (bits_of z 0 23)) h.1 ∙ sym (ap (λ x. cond x (type_of (bits_of (third_value a.registers) 0 23)) type.Inactive) e),
   )
 
-module _ (t : List ℕ) (i w : ℕ) (e : w ≡ word t i) (n : w / 256 % 2 ≡ 0 → ⊥) (f : Third) (h : ThirdOf (after t (i + 1)).registers f) where
-  pub head_few : f ≡ third.Few → KindIs (adapter_at t i) kind-found.Few
+module _ (t : List ℕ) (i w : ℕ) (e : w ≡ word t i) (n : w / 256 % 2 ≡ 0 → ⊥) (f : Option ℕ) (h : ThirdOf (after t (i + 1)).registers f) where
+  pub head_few : f ≡ None → KindIs (adapter_at t i) None
   unfolding adapter_at
   head_few k = kind_few (adapter_at t i) (was_read t i w e n) (subst (λ z. ThirdOf (after t (i + 1)).registers z) k h)
 
-  pub head_kind : (v : ℕ) → f ≡ third.Value v → (b : ℕ) → b ≡ bits_of v 0 23 → (k : AdapterType) → k ≡ type_of b → KindIs (adapter_at t i) (kind-found.Kind k)
+  pub head_kind : (v : ℕ) → f ≡ Some v → (b : ℕ) → b ≡ bits_of v 0 23 → (k : AdapterType) → k ≡ type_of b → KindIs (adapter_at t i) (Some k)
   unfolding adapter_at
   head_kind v m b q k z =
-      subst (λ x. KindIs (adapter_at t i) (kind-found.Kind x)) (sym (z ∙ ap type_of q))
+      subst (λ x. KindIs (adapter_at t i) (Some x)) (sym (z ∙ ap type_of q))
       (kind_is (adapter_at t i) (was_read t i w e n) v (subst (λ x. ThirdOf (after t (i + 1)).registers x) m h))
 
 -- capability parts: the first match so far (0 for none), the last so far, and the matches to come
 unfoldable pub part_to : ℕ → ℕ → Option Part
-part_to start end = cond (leb end start) none (some (record { start = start; end = end }))
+part_to start end = cond (leb end start) None (Some (record { start = start; end = end }))
 
 unfoldable pub resume : ℕ → ℕ → List ℕ → Option Part
 resume start end is = cond (ltb start 1) (between is) (part_to start (last_of end is))
@@ -163,11 +152,11 @@ last_least cap n i d (r ∷ rs) a b = go (eqb r.cap_id cap) (last_least cap n (s
     go true h k = h
     go false h k = k
 
-part_none : (s e : ℕ) → e ≤ s → part_to s e ≡ none
+part_none : (s e : ℕ) → e ≤ s → part_to s e ≡ None
 unfolding part_to
 part_none s e l = simp (le-leb e s l)
 
-part_some : (s e : ℕ) → s < e → part_to s e ≡ some (record { start = s; end = e })
+part_some : (s e : ℕ) → s < e → part_to s e ≡ Some (record { start = s; end = e })
 unfolding part_to
 part_some s e l = simp (lt-leb e s l)
 
@@ -177,15 +166,15 @@ unfolding between last_of
 between_last i [] h = sym (part_none i i (omega arith))
 between_last i (j ∷ is) h = sym (part_some i (last_of j is) (h (suc i) (omega arith)))
 
-resume_none : (s e : ℕ) → e ≤ s → resume s e [] ≡ none
+resume_none : (s e : ℕ) → e ≤ s → resume s e [] ≡ None
 unfolding resume between last_of
 resume_none s e l = go (ltb s 1)
   where
-    go : (b : Bool) → cond b none (part_to s e) ≡ none
+    go : (b : Bool) → cond b None (part_to s e) ≡ None
     go true = refl
     go false = part_none s e l
 
-resume_part : (s e : ℕ) → 1 ≤ s → s < e → resume s e [] ≡ some (record { start = s; end = e })
+resume_part : (s e : ℕ) → 1 ≤ s → s < e → resume s e [] ≡ Some (record { start = s; end = e })
 unfolding resume last_of
 resume_part s e h l = ap (λ b. cond b (between []) (part_to s e)) (le-ltb s 1 h) ∙ part_some s e l
 
@@ -204,8 +193,8 @@ resume_again s e i is h =
     ap (λ b. cond b (between (i ∷ is)) (part_to s (last_of i is))) (le-ltb s 1 h)
     ∙ sym (ap (λ b. cond b (between is) (part_to s (last_of i is))) (le-ltb s 1 h))
 
-pub cap_none : (t : List ℕ) (cap from a : ℕ) → NextRegister t false from a → length t ≤ a → cap_outcome cap_found.None ≡ find_cap cap (after t from).registers
-unfolding cap_outcome find_cap
+pub cap_none : (t : List ℕ) (cap from a : ℕ) → NextRegister t false from a → length t ≤ a → None ≡ find_cap cap (after t from).registers
+unfolding find_cap
 cap_none t cap from a n l = sym (ap (λ z. find_cap cap z) (none_of t from a n l))
 
 -- the loop of find_cap: the registers rs, of which those before index have been looked at
@@ -242,12 +231,10 @@ module _ (t : List ℕ) (cap : ℕ) (rs : List Register) where
     unfolding indices_from
     at_end l = h.so_far ∙ ap (λ g. resume start end (indices_from cap index g.registers)) (after_end t i l)
 
-    pub seek_none : length t ≤ i → end ≤ start → cap_outcome cap_found.None ≡ find_cap cap rs
-    unfolding cap_outcome
+    pub seek_none : length t ≤ i → end ≤ start → None ≡ find_cap cap rs
     seek_none l k = sym (at_end l ∙ resume_none start end k)
 
-    pub seek_part : length t ≤ i → start < end → cap_outcome (cap_found.Part start end) ≡ find_cap cap rs
-    unfolding cap_outcome
+    pub seek_part : length t ≤ i → start < end → (Some (record { start = start; end = end })) ≡ find_cap cap rs
     seek_part l k = sym (at_end l ∙ resume_part start end (go (dec_lt start 1)) k)
       where
         go : Dec (start < 1) → 1 ≤ start
@@ -293,7 +280,7 @@ module _ (k : AdapterType) (n : ℕ) (e : n ≡ type_number k) where
   a_lane h = ap (λ z. eqb z 2) (sym e ∙ h)
 
 module _ (usb4 : Bool) (k : AdapterType) (number : ℕ) (rs : List Register) where
-  lane0_by : (l b c d : Bool) → is_lane k ≡ l → (usb4 && found (find_cap cap_usb4 rs)) ≡ b → eqb number 1 ≡ c → eqb number 3 ≡ d → is_lane0 usb4 k number rs ≡ (l && (b || c || d))
+  lane0_by : (l b c d : Bool) → is_lane k ≡ l → (usb4 && is_some (find_cap cap_usb4 rs)) ≡ b → eqb number 1 ≡ c → eqb number 3 ≡ d → is_lane0 usb4 k number rs ≡ (l && (b || c || d))
   unfolding is_lane0
   lane0_by l b c d el eb ec ed = rw (el, eb, ec, ed) refl
 
@@ -301,14 +288,14 @@ module _ (usb4 : Bool) (k : AdapterType) (number : ℕ) (rs : List Register) whe
   lane0_other e = sym (lane0_by false _ _ _ e refl refl refl)
 
   pub lane0_one : is_lane k ≡ true → number ≡ 1 → true ≡ is_lane0 usb4 k number rs
-  lane0_one e h = sym (lane0_by true _ true _ e refl (eq-eqb number 1 h) refl ∙ go (usb4 && found (find_cap cap_usb4 rs)))
+  lane0_one e h = sym (lane0_by true _ true _ e refl (eq-eqb number 1 h) refl ∙ go (usb4 && is_some (find_cap cap_usb4 rs)))
     where
       go : (b : Bool) → (b || true || eqb number 3) ≡ true
       go true = refl
       go false = refl
 
   pub lane0_three : is_lane k ≡ true → number ≡ 3 → true ≡ is_lane0 usb4 k number rs
-  lane0_three e h = sym (lane0_by true _ _ true e refl refl (eq-eqb number 3 h) ∙ go (usb4 && found (find_cap cap_usb4 rs)) (eqb number 1))
+  lane0_three e h = sym (lane0_by true _ _ true e refl refl (eq-eqb number 3 h) ∙ go (usb4 && is_some (find_cap cap_usb4 rs)) (eqb number 1))
     where
       go : (b c : Bool) → (b || c || true) ≡ true
       go true c = refl
@@ -317,50 +304,48 @@ module _ (usb4 : Bool) (k : AdapterType) (number : ℕ) (rs : List Register) whe
 
   module _ (e : is_lane k ≡ true) (n1 : number ≡ 1 → ⊥) (n3 : number ≡ 3 → ⊥) where
     pub lane0_old : usb4 ≡ false → false ≡ is_lane0 usb4 k number rs
-    lane0_old u = sym (lane0_by true false false false e (ap (λ z. z && found (find_cap cap_usb4 rs)) u) (ne_eqb number 1 n1) (ne_eqb number 3 n3))
+    lane0_old u = sym (lane0_by true false false false e (ap (λ z. z && is_some (find_cap cap_usb4 rs)) u) (ne_eqb number 1 n1) (ne_eqb number 3 n3))
 
-    module _ (u : usb4 ≡ true) (f : CapFound) (h : cap_outcome f ≡ find_cap cap_usb4 rs) where
-      pub lane0_none : f ≡ cap_found.None → false ≡ is_lane0 usb4 k number rs
-      unfolding cap_outcome found
-      lane0_none m = sym (lane0_by true false false false e (ap (λ z. z && found (find_cap cap_usb4 rs)) u ∙ ap found (sym h ∙ ap cap_outcome m)) (ne_eqb number 1 n1) (ne_eqb number 3 n3))
-
-      pub lane0_cap : (i j : ℕ) → f ≡ cap_found.Part i j → true ≡ is_lane0 usb4 k number rs
-      unfolding cap_outcome found
-      lane0_cap i j m = sym (lane0_by true true false false e (ap (λ z. z && found (find_cap cap_usb4 rs)) u ∙ ap found (sym h ∙ ap cap_outcome m)) (ne_eqb number 1 n1) (ne_eqb number 3 n3))
+    pub lane0_new : usb4 ≡ true → (f : Option Part) → f ≡ find_cap cap_usb4 rs → is_some f ≡ is_lane0 usb4 k number rs
+    lane0_new u f h = sym (lane0_by true (is_some f) false false e (ap (λ z. z && is_some (find_cap cap_usb4 rs)) u ∙ ap (λ z. is_some z) (sym h)) (ne_eqb number 1 n1) (ne_eqb number 3 n3) ∙ go (is_some f))
+      where
+        go : (b : Bool) → (b || false || false) ≡ b
+        go true = refl
+        go false = refl
 
 -- the largest HopID
-module _ (s : Site) (t v : List ℕ) (o : Option Named) (f : NamedFound) (e : named_at t v f ≡ o) where
-  pub most_none : f ≡ named-found.Nowhere → max_hop_outcome s most.None ≡ max_hop_in s o
+module _ (s : Site) (t v : List ℕ) (o : Option Named) (f : Option NamedAt) (e : named_at t v f ≡ o) where
+  pub most_none : f ≡ None → max_hop_outcome s (Ok None) ≡ max_hop_in s o
   unfolding max_hop_outcome max_hop_in named_at
   most_none k = ap (λ z. max_hop_in s z) (sym (ap (λ z. named_at t v z) k) ∙ e)
 
-  module _ (i g : ℕ) (k : f ≡ named-found.At i g) (w : ℕ) (q : w ≡ word v (i + 3))
-      (r : FieldRead) (h : field_read r ≡ value_in w (find_field (bytes_of "Max Input HopID") (described t g).fields)) where
+  module _ (i g : ℕ) (k : f ≡ named_in i g) (w : ℕ) (q : w ≡ word v (i + 3))
+      (r : Result ℕ FieldError) (h : field_read r ≡ value_in w (find_field (bytes_of "Max Input HopID") (described t g).fields)) where
     most_by : max_hop_in s o ≡ bind (sited s (field_read r)) (λ m. value (narrow m))
     unfolding max_hop_in wanted_field named_at register_at register_in register_of
     most_by =
         ap (λ z. max_hop_in s z) (sym e ∙ ap (λ z. named_at t v z) k)
         ∙ ap (λ z. bind (sited s z) (λ m. value (narrow m))) (sym (h ∙ ap (λ z. value_in z (find_field (bytes_of "Max Input HopID") (described t g).fields)) q))
 
-    pub most_lacks : r ≡ field.Missing → max_hop_outcome s most.NoField ≡ max_hop_in s o
-    unfolding max_hop_outcome field_read sited bind refusal_of
+    pub most_lacks : r ≡ (Err field.NoField) → max_hop_outcome s (Err field.NoField) ≡ max_hop_in s o
+    unfolding max_hop_outcome sited bind refusal_of
     most_lacks m = sym (most_by ∙ ap (λ z. bind (sited s (field_read z)) (λ m. value (narrow m))) m)
 
-    pub most_wide : (m : ℕ) → r ≡ field.Value m → 65535 < m → max_hop_outcome s most.None ≡ max_hop_in s o
-    unfolding max_hop_outcome field_read sited bind narrow
-    most_wide m y l = sym (most_by ∙ ap (λ z. bind (sited s (field_read z)) (λ m. value (narrow m))) y ∙ ap (λ b. value (cond b (some m) none)) (lt-leb m 65535 l))
+    pub most_wide : (m : ℕ) → r ≡ Ok m → 65535 < m → max_hop_outcome s (Ok None) ≡ max_hop_in s o
+    unfolding max_hop_outcome sited bind narrow
+    most_wide m y l = sym (most_by ∙ ap (λ z. bind (sited s (field_read z)) (λ m. value (narrow m))) y ∙ ap (λ b. value (cond b (Some m) None)) (lt-leb m 65535 l))
 
-    pub most_is : (m : ℕ) → r ≡ field.Value m → m ≤ 65535 → max_hop_outcome s (most.Hop m) ≡ max_hop_in s o
-    unfolding max_hop_outcome field_read sited bind narrow
-    most_is m y l = sym (most_by ∙ ap (λ z. bind (sited s (field_read z)) (λ m. value (narrow m))) y ∙ ap (λ b. value (cond b (some m) none)) (le-leb m 65535 l))
+    pub most_is : (m : ℕ) → r ≡ Ok m → m ≤ 65535 → max_hop_outcome s (Ok (Some m)) ≡ max_hop_in s o
+    unfolding max_hop_outcome sited bind narrow
+    most_is m y l = sym (most_by ∙ ap (λ z. bind (sited s (field_read z)) (λ m. value (narrow m))) y ∙ ap (λ b. value (cond b (Some m) None)) (le-leb m 65535 l))
 
-pub most_of : (ds : List Description) (s : Site) (k : AdapterType) (n : ℕ) (rs : List Register) (h : MaxHop) → n ≡ type_number k
+pub most_of : (ds : List Description) (s : Site) (k : AdapterType) (n : ℕ) (rs : List Register) (h : Result (Option ℕ) FieldError) → n ≡ type_number k
     → max_hop_outcome s h ≡ max_hop_in s (by_name ds adapter_space n (bytes_of "ADP_CS_5") rs) → max_hop_outcome s h ≡ max_hop ds s k rs
 unfolding max_hop of_kind
 most_of ds s k n rs h e q = q ∙ ap (λ z. max_hop_in s (by_name ds adapter_space z (bytes_of "ADP_CS_5") rs)) e
 
 -- what is known of an adapter, field by field
-pub facts_row_lem : (ds : List Description) (p : ℕ) (usb4 : Bool) (n : ℕ) (k : AdapterType) (rs : List Register) (st : State) (l0 l1 : Bool) (sp : SpeedFound) (h : MaxHop)
+pub facts_row_lem : (ds : List Description) (p : ℕ) (usb4 : Bool) (n : ℕ) (k : AdapterType) (rs : List Register) (st : State) (l0 l1 : Bool) (sp : Result Speed FieldError) (h : Result (Option ℕ) FieldError)
     → l0 ≡ is_lane0 usb4 k n rs → l1 ≡ (is_lane k && not l0) → speed_outcome (adapter_site p n) sp ≡ link_speed ds (adapter_site p n) k st rs
     → max_hop_outcome (adapter_site p n) h ≡ max_hop ds (adapter_site p n) k rs
     → facts_row p (record { number = n; kind = k; state = st; lane0 = l0; lane1 = l1; speed = sp; max_hop = h }) ≡ row_by ds p usb4 n k rs st
@@ -368,13 +353,13 @@ unfolding facts_row row_by
 facts_row_lem ds p usb4 n k rs st l0 l1 sp h e0 e1 es eh = rw (es, eh, e1, e0) refl
 
 -- what decode answers
-module _ (ds : List Description) (p : ℕ) (usb4 : Bool) (a : Adapter) (n : ℕ) (en : n ≡ a.number) (q : KindFound) (eq : KindIs a q) where
-  pub decode_few : q ≡ kind-found.Few → decoded_outcome p (decoded.Refused (FewRegisters (record { place = p; adapter = n }))) ≡ decode_of ds p usb4 a
+module _ (ds : List Description) (p : ℕ) (usb4 : Bool) (a : Adapter) (n : ℕ) (en : n ≡ a.number) (q : Option AdapterType) (eq : KindIs a q) where
+  pub decode_few : q ≡ None → decoded_outcome p (Err (FewRegisters (record { place = p; adapter = n }))) ≡ decode_of ds p usb4 a
   unfolding decoded_outcome decode_of KindIs adapter_site
   decode_few m = let k : few_registers a ≡ true = subst (λ z. KindIs a z) m eq in rw (k, en) refl
 
-  module _ (k : AdapterType) (ek : q ≡ kind-found.Kind k) (rs : List Register) (er : rs ≡ registers_of a)
-      (f : StateFound) (ef : state_outcome f ≡ state_of ds (record { place = p; adapter = n }) k rs) where
+  module _ (k : AdapterType) (ek : q ≡ Some k) (rs : List Register) (er : rs ≡ registers_of a)
+      (f : Result State Fault) (ef : state_outcome f ≡ state_of ds (record { place = p; adapter = n }) k rs) where
     its_kind : (few_registers a ≡ false) × (k ≡ kind_of a)
     unfolding KindIs
     its_kind = subst (λ z. KindIs a z) ek eq
@@ -383,7 +368,7 @@ module _ (ds : List Description) (p : ℕ) (usb4 : Bool) (a : Adapter) (n : ℕ)
     unfolding parse_state adapter_site
     state_is = rw (ef, en, its_kind.1, er) refl
 
-    decode_by : (z : StateFound) → f ≡ z → decode_of ds p usb4 a ≡ bind (state_outcome z) (λ st. value (row_of ds p usb4 a st))
+    decode_by : (z : Result State Fault) → f ≡ z → decode_of ds p usb4 a ≡ bind (state_outcome z) (λ st. value (row_of ds p usb4 a st))
     unfolding decode_of
     decode_by z m =
         ap (λ b. cond b (refusal_of (FewRegisters (adapter_site p a.number))) (bind (parse_state ds (adapter_site p a.number) a) (λ st. value (row_of ds p usb4 a st)))) its_kind.0
@@ -393,10 +378,10 @@ module _ (ds : List Description) (p : ℕ) (usb4 : Bool) (a : Adapter) (n : ℕ)
     unfolding row_by row_of lane0_of lane1_of
     row_is st = rw (en, its_kind.1, er) refl
 
-    pub decode_refused : (x : Fault) → f ≡ state-found.Refused x → decoded_outcome p (decoded.Refused x) ≡ decode_of ds p usb4 a
+    pub decode_refused : (x : Fault) → f ≡ Err x → decoded_outcome p (Err x) ≡ decode_of ds p usb4 a
     unfolding decoded_outcome state_outcome
-    decode_refused x m = sym (decode_by (state-found.Refused x) m ∙ fault_bind {A = State} {B = AdapterRow} x _)
+    decode_refused x m = sym (decode_by (Err x) m ∙ fault_bind {A = State} {B = AdapterRow} x _)
 
-    pub decode_adapter : (st : State) → f ≡ state-found.State st → (r : Facts) → facts_row p r ≡ row_by ds p usb4 n k rs st → decoded_outcome p (decoded.Adapter r) ≡ decode_of ds p usb4 a
+    pub decode_adapter : (st : State) → f ≡ Ok st → (r : Facts) → facts_row p r ≡ row_by ds p usb4 n k rs st → decoded_outcome p (Ok r) ≡ decode_of ds p usb4 a
     unfolding decoded_outcome state_outcome bind
-    decode_adapter st m r h = ap (λ z. value z) (h ∙ row_is st) ∙ sym (decode_by (state-found.State st) m)
+    decode_adapter st m r h = ap (λ z. value z) (h ∙ row_is st) ∙ sym (decode_by (Ok st) m)

@@ -1,6 +1,5 @@
 -- Document 01, module 5: an adapter's kind, lanes, capabilities and hop range, and what it is loaded to. Assumes nothing.
-use Rattle.std.specs.Prelude.{ℕ, suc, Bool, true, false, cond, not, ◌&&◌, ◌||◌, List, [], ◌∷◌, ltb, leb, eqb, length}
-use Rattle.std.proofs.Math.Option.{Option, none, some}
+use Rattle.std.specs.Prelude.{is_some, ℕ, suc, Bool, true, false, cond, not, ◌&&◌, ◌||◌, List, [], ◌∷◌, ltb, leb, eqb, length, Option, None, Some, Err, Ok, Result}
 use Rattle.refusal.specs.Outcome.{Outcome, value, bind}
 use Rattle.refusal.specs.Refusal.{refusal_of}
 use Rattle.refusal.specs.declared.Site.{Site}
@@ -18,15 +17,11 @@ use Rattle.layout.specs.Description.{Description}
 use Rattle.survey.specs.Devices.{Adapter}
 use Rattle.named.specs.Named.{Named, wanted_field}
 use Rattle.state.specs.State.{of_kind, state_of, link_speed, speed_outcome}
+use Rattle.adapter.specs.declared.Part.{Part}
 use Rattle.adapter.specs.declared.Facts.{Facts}
-use Rattle.adapter.specs.declared.HopFound.{HopFound}
-use Rattle.adapter.specs.declared.HopFound.TheVariants as hop
-use Rattle.adapter.specs.declared.MaxHop.{MaxHop}
-use Rattle.adapter.specs.declared.MaxHop.TheVariants as most
-use Rattle.adapter.specs.declared.CapFound.{CapFound}
-use Rattle.adapter.specs.declared.CapFound.TheVariants as cap_found
-use Rattle.adapter.specs.declared.Decoded.{Decoded}
-use Rattle.adapter.specs.declared.Decoded.TheVariants as decoded
+use Rattle.refusal.specs.declared.Fault.{Fault}
+use Rattle.refusal.specs.declared.FieldError.{FieldError}
+use Rattle.refusal.specs.declared.FieldError.TheVariants as field
 
 -- the third of the sorted records, not the one at offset 2
 unfoldable pub third_value : List Register → ℕ
@@ -52,25 +47,16 @@ unfoldable pub last_of : ℕ → List ℕ → ℕ
 last_of d [] = d
 last_of d (x ∷ xs) = last_of x xs
 
--- a part of an adapter's records, by indices: from start up to end, which is left out
-pub record Part : Type 0 where
-  pub start : ℕ
-  pub end : ℕ
-
 -- from the first match up to the last
 unfoldable pub between : List ℕ → Option Part
-between [] = none
-between (i ∷ []) = none
-between (i ∷ j ∷ is) = some (record { start = i; end = last_of j is })
+between [] = None
+between (i ∷ []) = None
+between (i ∷ j ∷ is) = Some (record { start = i; end = last_of j is })
 
 -- `find_cap`: needs two matches after index 0
 unfoldable pub find_cap : ℕ → List Register → Option Part
-find_cap cap [] = none
+find_cap cap [] = None
 find_cap cap (r ∷ rs) = between (indices_from cap 1 rs)
-
-unfoldable pub found : {A : Type 0} → Option A → Bool
-found none = false
-found (some a) = true
 
 unfoldable pub is_lane : AdapterType → Bool
 is_lane k = eqb (type_number k) (type_number type.Lane)
@@ -81,7 +67,7 @@ cap_usb4 = 6
 
 -- `is_lane0`: on a USB4 router by the capability, else, or without it, adapters 1 and 3
 unfoldable pub is_lane0 : Bool → AdapterType → ℕ → List Register → Bool
-is_lane0 usb4 k number rs = is_lane k && ((usb4 && found (find_cap cap_usb4 rs)) || eqb number 1 || eqb number 3)
+is_lane0 usb4 k number rs = is_lane k && ((usb4 && is_some (find_cap cap_usb4 rs)) || eqb number 1 || eqb number 3)
 
 unfoldable pub lane0_of : Bool → Adapter → Bool
 lane0_of usb4 a = is_lane0 usb4 (kind_of a) a.number (registers_of a)
@@ -91,26 +77,26 @@ lane1_of usb4 a = is_lane (kind_of a) && not (lane0_of usb4 a)
 
 -- `min_hop`, by the kind
 unfoldable pub min_hop : AdapterType → Option ℕ
-min_hop type.Unknown = none
-min_hop type.Inactive = none
-min_hop type.Lane = some 8
-min_hop type.HostInterface = some 1
-min_hop type.DisplayPortIn = some 8
-min_hop type.DisplayPortOut = some 8
-min_hop type.PcieDown = some 8
-min_hop type.PcieUp = some 8
-min_hop type.Usb3Down = some 8
-min_hop type.Usb3Up = some 8
-min_hop type.Usb3GenTDown = some 8
-min_hop type.Usb3GenTUp = some 8
+min_hop type.Unknown = None
+min_hop type.Inactive = None
+min_hop type.Lane = Some 8
+min_hop type.HostInterface = Some 1
+min_hop type.DisplayPortIn = Some 8
+min_hop type.DisplayPortOut = Some 8
+min_hop type.PcieDown = Some 8
+min_hop type.PcieUp = Some 8
+min_hop type.Usb3Down = Some 8
+min_hop type.Usb3Up = Some 8
+min_hop type.Usb3GenTDown = Some 8
+min_hop type.Usb3GenTUp = Some 8
 
 -- at most 65,535, else none
 unfoldable pub narrow : ℕ → Option ℕ
-narrow v = cond (leb v 65535) (some v) none
+narrow v = cond (leb v 65535) (Some v) None
 
 unfoldable pub max_hop_in : Site → Option Named → Outcome (Option ℕ)
-max_hop_in s none = value none
-max_hop_in s (some n) = bind (wanted_field s n (bytes_of "Max Input HopID")) (λ v. value (narrow v))
+max_hop_in s None = value None
+max_hop_in s (Some n) = bind (wanted_field s n (bytes_of "Max Input HopID")) (λ v. value (narrow v))
 
 -- `max_hop`: none without ADP_CS_5, 6 where it lacks the field
 unfoldable pub max_hop : List Description → Site → AdapterType → List Register → Outcome (Option ℕ)
@@ -157,19 +143,10 @@ decode_of ds p usb4 a =
     cond (few_registers a) (refusal_of (FewRegisters (adapter_site p a.number)))
     (bind (parse_state ds (adapter_site p a.number) a) (λ st. value (row_of ds p usb4 a st)))
 
--- what the functions answer
-unfoldable pub hop_outcome : HopFound → Option ℕ
-hop_outcome (hop.Hop h) = some h
-hop_outcome hop.None = none
-
-unfoldable pub max_hop_outcome : Site → MaxHop → Outcome (Option ℕ)
-max_hop_outcome s (most.Hop h) = value (some h)
-max_hop_outcome s most.None = value none
-max_hop_outcome s most.NoField = refusal_of (NoField s)
-
-unfoldable pub cap_outcome : CapFound → Option Part
-cap_outcome (cap_found.Part i j) = some (record { start = i; end = j })
-cap_outcome cap_found.None = none
+unfoldable pub max_hop_outcome : Site → Result (Option ℕ) FieldError → Outcome (Option ℕ)
+max_hop_outcome s (Ok (Some h)) = value (Some h)
+max_hop_outcome s (Ok None) = value None
+max_hop_outcome s (Err e) = refusal_of (NoField s)
 
 unfoldable pub facts_row : ℕ → Facts → AdapterRow
 facts_row p f = record {
@@ -183,6 +160,6 @@ facts_row p f = record {
   max_hop = max_hop_outcome (adapter_site p f.number) f.max_hop;
 }
 
-unfoldable pub decoded_outcome : ℕ → Decoded → Outcome AdapterRow
-decoded_outcome p (decoded.Adapter f) = value (facts_row p f)
-decoded_outcome p (decoded.Refused f) = refusal_of f
+unfoldable pub decoded_outcome : ℕ → Result Facts Fault → Outcome AdapterRow
+decoded_outcome p (Ok f) = value (facts_row p f)
+decoded_outcome p (Err f) = refusal_of f

@@ -1,5 +1,5 @@
 -- For the contracts of private functions only. No promise to a caller rests on these. Assumes nothing.
-use Rattle.std.specs.Prelude.{ℕ, ◌≤◌, ◌<◌, ◌≡◌, Bool, true, false, not, ◌&&◌, List, length}
+use Rattle.std.specs.Prelude.{ℕ, ◌≤◌, ◌<◌, ◌≡◌, Bool, true, false, not, ◌&&◌, List, length, None, Option, Some}
 use Rattle.layout.specs.Description.{Description}
 use Rattle.register.specs.declared.Register.{Register}
 use Rattle.survey.specs.Devices.{Adapter}
@@ -7,20 +7,16 @@ use Rattle.usb4.specs.declared.AdapterType.{AdapterType}
 use Rattle.usb4.specs.declared.State.{State}
 use Rattle.state.specs.State.{link_speed}
 use Rattle.adapter.specs.Adapter.{third_value, kind_of, is_lane, is_lane0, max_hop, AdapterRow, adapter_site, few_registers}
-use Rattle.adapter.specs.declared.Third.{Third}
-use Rattle.adapter.specs.declared.Third.TheVariants as third
-use Rattle.adapter.specs.declared.KindFound.{KindFound}
-use Rattle.adapter.specs.declared.KindFound.TheVariants as kind-found
 
 -- the third of at least three registers
-unfoldable pub ThirdOf : List Register → Third → Type 0
-ThirdOf rs (third.Value v) = (3 ≤ length rs) × (v ≡ third_value rs)
-ThirdOf rs third.Few = length rs < 3
+unfoldable pub ThirdOf : List Register → Option ℕ → Type 0
+ThirdOf rs (Some v) = (3 ≤ length rs) × (v ≡ third_value rs)
+ThirdOf rs None = length rs < 3
 
 -- the kind of an adapter that has enough registers
-unfoldable pub KindIs : Adapter → KindFound → Type 0
-KindIs a (kind-found.Kind k) = (few_registers a ≡ false) × (k ≡ kind_of a)
-KindIs a kind-found.Few = few_registers a ≡ true
+unfoldable pub KindIs : Adapter → Option AdapterType → Type 0
+KindIs a (Some k) = (few_registers a ≡ false) × (k ≡ kind_of a)
+KindIs a None = few_registers a ≡ true
 
 -- an adapter's row by its number, kind and registers
 unfoldable pub row_by : List Description → ℕ → Bool → ℕ → AdapterType → List Register → State → AdapterRow

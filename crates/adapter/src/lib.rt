@@ -7,51 +7,21 @@ ghost use Rattle.util.specs.Text.{bytes_of};
 ghost use Rattle.layout.specs.Description.{descriptions_of};
 ghost use Rattle.listing.specs.After.{after, adapter_at};
 ghost use Rattle.named.specs.Named.{adapter_space, named, by_name};
-ghost use Rattle.adapter.specs.Adapter.{registers_of, find_cap, is_lane, is_lane0, max_hop_in, decode_of, max_hop_outcome, cap_outcome, decoded_outcome, facts_row};
+ghost use Rattle.adapter.specs.Adapter.{registers_of, find_cap, is_lane, is_lane0, max_hop_in, decode_of, max_hop_outcome, decoded_outcome, facts_row};
 ghost use Rattle.adapter.specs.Work.{ThirdOf, KindIs, row_by};
 
-use named::{FieldRead, NamedFound};
-use refusal::{Fault, Site};
-use state::{SpeedFound, StateFound};
-use usb4::{AdapterType, State};
+use named::NamedAt;
+use refusal::{Fault, FieldError, Site};
+use usb4::{AdapterType, Speed, State};
 
 // The capability of USB4 ports.
 const ADP_CAP_ID_USB4: u32 = 0x6;
 
-// The value of the third register, or there are fewer.
-#[derive(Clone, Copy)]
-pub enum Third {
-    Value(u32),
-    Few,
-}
-
-// An adapter's kind, or it has too few registers.
-#[derive(Clone, Copy)]
-pub enum KindFound {
-    Kind(AdapterType),
-    Few,
-}
-
-// A least HopID, or none.
-#[derive(Clone, Copy)]
-pub enum HopFound {
-    Hop(u32),
-    None,
-}
-
-// A largest HopID, none, or 6.
-#[derive(Clone, Copy)]
-pub enum MaxHop {
-    Hop(u32),
-    None,
-    NoField,
-}
-
 // A part of an adapter's registers, by indices: from start up to end, which is left out.
 #[derive(Clone, Copy)]
-pub enum CapFound {
-    Part { start: usize, end: usize },
-    None,
+pub struct Part {
+    pub start: usize,
+    pub end: usize,
 }
 
 // What is known of an adapter.
@@ -62,23 +32,15 @@ pub struct Facts {
     pub state: State,
     pub lane0: bool,
     pub lane1: bool,
-    pub speed: SpeedFound,
-    pub max_hop: MaxHop,
+    pub speed: Result<Speed, FieldError>,
+    pub max_hop: Result<Option<u32>, FieldError>,
 }
 
-// An adapter, or what refuses it: 5, 6 or 8.
+// Where a path entry leads.
 #[derive(Clone, Copy)]
-pub enum Decoded {
-    Adapter(Facts),
-    Refused(Fault),
-}
-
-// Where a path entry leads; one that isn't valid; or 6.
-#[derive(Clone, Copy)]
-pub enum EntryFound {
-    Entry { out_adapter: u8, out_hop: u16 },
-    Invalid,
-    NoField,
+pub struct EntryOut {
+    pub out_adapter: u8,
+    pub out_hop: u16,
 }
 
 // Where the registers of the adapter whose head stands at a place begin; the length where they were not read.
@@ -92,44 +54,44 @@ fn registers_from(survey: &[u32], at: usize) -> usize
 }
 
 // The value of the third register from a place on.
-fn third_value(survey: &[u32], from: usize) -> Third
+fn third_value(survey: &[u32], from: usize) -> Option<u32>
     ensures { ThirdOf (after survey.now from).registers result }
 {
     let first = listing::next_register(survey, from, false);
     if survey.len() <= first {
-        return Third::Few;
+        return None;
     }
     let second = listing::next_register(survey, first + 4, false);
     if survey.len() <= second {
-        return Third::Few;
+        return None;
     }
     let third = listing::next_register(survey, second + 4, false);
     if survey.len() <= third {
-        return Third::Few;
+        return None;
     }
-    Third::Value(layout::word_at(survey, third + 3))
+    Some(layout::word_at(survey, third + 3))
 }
 
 // The kind of the adapter whose head stands at a place.
-fn parse_kind(survey: &[u32], at: usize) -> KindFound
+fn parse_kind(survey: &[u32], at: usize) -> Option<AdapterType>
     ensures { KindIs (adapter_at survey.now at) result }
 {
     if layout::word_at(survey, at) / 256 % 2 == 0 {
-        return KindFound::Kind(AdapterType::Inactive);
+        return Some(AdapterType::Inactive);
     }
-    let Third::Value(value) = third_value(survey, at + 1) else {
-        return KindFound::Few;
+    let Some(value) = third_value(survey, at + 1) else {
+        return None;
     };
-    KindFound::Kind(codes::adapter_type(util::bits(value, 0, 23)))
+    Some(codes::adapter_type(util::bits(value, 0, 23)))
 }
 
 // The registers from the first with a cap id after index 0 up to the last, if there are two.
-fn find_cap(survey: &[u32], from: usize, cap: u32) -> CapFound
-    ensures { cap_outcome result ≡ find_cap cap (after survey.now from).registers }
+fn find_cap(survey: &[u32], from: usize, cap: u32) -> Option<Part>
+    ensures { result ≡ find_cap cap (after survey.now from).registers }
 {
     let first = listing::next_register(survey, from, false);
     if survey.len() <= first {
-        return CapFound::None;
+        return None;
     }
     let mut i = listing::next_register(survey, first + 4, false);
     let mut index: usize = 1;
@@ -147,9 +109,9 @@ fn find_cap(survey: &[u32], from: usize, cap: u32) -> CapFound
         i = listing::next_register(survey, i + 4, false);
     }
     if end <= start {
-        return CapFound::None;
+        return None;
     }
-    CapFound::Part { start, end }
+    Some(Part { start, end })
 }
 
 // Whether an adapter of a kind and number is lane 0.
@@ -168,10 +130,7 @@ fn is_lane0(survey: &[u32], from: usize, usb4: bool, kind: AdapterType, number: 
     if !usb4 {
         return false;
     }
-    let CapFound::Part { start: _, end: _ } = find_cap(survey, from, ADP_CAP_ID_USB4) else {
-        return false;
-    };
-    true
+    find_cap(survey, from, ADP_CAP_ID_USB4).is_some()
 }
 
 // A lane that isn't lane 0 is lane 1.
@@ -185,10 +144,15 @@ fn is_lane1(kind: AdapterType, lane0: bool) -> bool
 }
 
 // The largest HopID of an adapter of a kind, by the kind's number.
-fn max_hop(descriptions: &[u32], survey: &[u32], from: usize, kind: u32) -> MaxHop
+fn max_hop(
+    descriptions: &[u32],
+    survey: &[u32],
+    from: usize,
+    kind: u32,
+) -> Result<Option<u32>, FieldError>
     ensures { (s : Site) → max_hop_outcome s result ≡ max_hop_in s (by_name (descriptions_of descriptions.now) adapter_space kind (bytes_of "ADP_CS_5") (after survey.now from).registers) }
 {
-    let NamedFound::At { register, group } = named::by_name(
+    let Some(NamedAt { register, group }) = named::by_name(
         descriptions,
         survey,
         from,
@@ -196,17 +160,16 @@ fn max_hop(descriptions: &[u32], survey: &[u32], from: usize, kind: u32) -> MaxH
         kind,
         b"ADP_CS_5",
     ) else {
-        return MaxHop::None;
+        return Ok(None);
     };
     let value = layout::word_at(survey, register + 3);
-    let FieldRead::Value(most) = named::field_value(descriptions, group, value, b"Max Input HopID")
-    else {
-        return MaxHop::NoField;
+    let Ok(most) = named::field_value(descriptions, group, value, b"Max Input HopID") else {
+        return Err(FieldError::NoField);
     };
     if 65535 < most {
-        return MaxHop::None;
+        return Ok(None);
     }
-    MaxHop::Hop(most)
+    Ok(Some(most))
 }
 
 // What is known of an adapter of a kind and number in a state.
@@ -237,7 +200,13 @@ fn facts_of(
 }
 
 // What the adapter whose head stands at a place is loaded to, but for its path entries: 5, then its state, 6 or 8 as met.
-pub fn decode(descriptions: &[u32], survey: &[u32], at: usize, usb4: bool, place: usize) -> Decoded
+pub fn decode(
+    descriptions: &[u32],
+    survey: &[u32],
+    at: usize,
+    usb4: bool,
+    place: usize,
+) -> Result<Facts, Fault>
     ensures { decoded_outcome place result ≡ decode_of (descriptions_of descriptions.now) place usb4 (adapter_at survey.now at) }
 {
     let number = (layout::word_at(survey, at) % 256) as u8;
@@ -245,21 +214,17 @@ pub fn decode(descriptions: &[u32], survey: &[u32], at: usize, usb4: bool, place
         place,
         adapter: number,
     };
-    let KindFound::Kind(kind) = parse_kind(survey, at) else {
-        return Decoded::Refused(Fault::FewRegisters(site));
+    let Some(kind) = parse_kind(survey, at) else {
+        return Err(Fault::FewRegisters(site));
     };
     let from = registers_from(survey, at);
-    match state::parse_state(descriptions, survey, from, kind, site) {
-        StateFound::Refused(fault) => Decoded::Refused(fault),
-        StateFound::State(state) => {
-            Decoded::Adapter(facts_of(descriptions, survey, from, usb4, kind, number, state))
-        }
-    }
+    let state = state::parse_state(descriptions, survey, from, kind, site)?;
+    Ok(facts_of(descriptions, survey, from, usb4, kind, number, state))
 }
 
 // The capability part of the adapter whose head stands at a place.
-pub fn capability(survey: &[u32], at: usize, cap: u32) -> CapFound
-    ensures { cap_outcome result ≡ find_cap cap (registers_of (adapter_at survey.now at)) }
+pub fn capability(survey: &[u32], at: usize, cap: u32) -> Option<Part>
+    ensures { result ≡ find_cap cap (registers_of (adapter_at survey.now at)) }
 {
     find_cap(survey, registers_from(survey, at), cap)
 }

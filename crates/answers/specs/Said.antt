@@ -1,10 +1,7 @@
 -- The eight words in which an exported call says its answer. Assumes nothing.
-use Rattle.std.specs.Prelude.{ℕ, zero, suc, Bool, cond, ◌&&◌, List, [], ◌∷◌, eqb, get_or}
-use Rattle.std.proofs.Math.Option.{Option, none, some}
+use Rattle.std.specs.Prelude.{ℕ, zero, suc, Bool, cond, ◌&&◌, List, [], ◌∷◌, eqb, get_or, Option, None, Some}
 use Rattle.refusal.specs.Outcome.{Outcome, refused, value, bind}
 use Rattle.util.specs.Number.{hex_number}
-use Rattle.util.specs.declared.Number.{Number}
-use Rattle.util.specs.declared.Number.TheVariants as number
 use Rattle.register.specs.Line.{max16, max32}
 use Rattle.register.specs.declared.Register.{Register}
 
@@ -20,8 +17,8 @@ padded (suc n) (w ∷ ws) = w ∷ padded n ws
 -- a refusal's number and then its values; or 0, 1 and the result; or 0 and 0 for none or absent; the rest is 0
 unfoldable pub said : Outcome (Option (List ℕ)) → List ℕ
 said (refused n vs) = padded answer_size (n ∷ vs)
-said (value none) = padded answer_size (0 ∷ 0 ∷ [])
-said (value (some ws)) = padded answer_size (0 ∷ 1 ∷ ws)
+said (value None) = padded answer_size (0 ∷ 0 ∷ [])
+said (value (Some ws)) = padded answer_size (0 ∷ 1 ∷ ws)
 
 -- whether there is a result: 0, then 1
 unfoldable pub answered : List ℕ → Bool
@@ -29,12 +26,12 @@ answered ws = eqb (get_or ws 0 0) 0 && eqb (get_or ws 1 0) 1
 
 -- a result that is there unless it is refused, as words
 unfoldable pub always : {A : Type 0} → (A → List ℕ) → Outcome A → Outcome (Option (List ℕ))
-always f o = bind o (λ a. value (some (f a)))
+always f o = bind o (λ a. value (Some (f a)))
 
 -- a result that may be none or absent, as words
 unfoldable pub words_in : {A : Type 0} → (A → List ℕ) → Option A → Option (List ℕ)
-words_in f none = none
-words_in f (some a) = some (f a)
+words_in f None = None
+words_in f (Some a) = Some (f a)
 
 unfoldable pub perhaps : {A : Type 0} → (A → List ℕ) → Outcome (Option A) → Outcome (Option (List ℕ))
 perhaps f o = bind o (λ a. value (words_in f a))
@@ -54,12 +51,8 @@ abbrev pub max64 : ℕ
 max64 = 0xffffffffffffffff
 
 -- a hex number of 16, 32 or 64 bits; none for any other width
-unfoldable pub hex_of_bits : ℕ → List ℕ → Number
+unfoldable pub hex_of_bits : ℕ → List ℕ → Option ℕ
 hex_of_bits bits s =
     cond (eqb bits 16) (hex_number max16 s)
     (cond (eqb bits 32) (hex_number max32 s)
-    (cond (eqb bits 64) (hex_number max64 s) number.None))
-
-unfoldable pub number_outcome : Number → Outcome (Option ℕ)
-number_outcome (number.Value v) = value (some v)
-number_outcome number.None = value none
+    (cond (eqb bits 64) (hex_number max64 s) None))

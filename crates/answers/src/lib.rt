@@ -2,34 +2,77 @@
 #![tactic(auto)]
 
 ghost use Rattle.std.specs.Prelude.{◌≡◌, [], ◌∷◌};
-ghost use Rattle.std.proofs.Math.Option.{some};
-ghost use Rattle.refusal.specs.Outcome.{refused as refusal, value};
-ghost use Rattle.register.specs.Line.{line_outcome};
-ghost use Rattle.dump.specs.Dump.{dump_outcome};
-ghost use Rattle.text.specs.Text.{text_outcome};
-ghost use Rattle.answers.specs.Said.{said, always, perhaps, one, register_words, hex_of_bits, number_outcome};
+ghost use Rattle.refusal.specs.Outcome.{refused as refused_with, value};
+ghost use Rattle.refusal.specs.Refusal.{at, refusal_of, refused_by, outcome};
+ghost use Rattle.answers.specs.Said.{said, always, perhaps, one, register_words, hex_of_bits};
 
-use dump::Dump;
-use register::Line;
-use text::TextAnswer;
-use util::Number;
+use refusal::{Fault, Refusal, Site};
+use register::Register;
 
 // Of a refusal by its number and one value.
-fn refused(number: u64, value: usize) -> [u64; 8]
-    ensures { result ≡ said (refusal number (value ∷ [])) }
+fn valued(number: u64, value: usize) -> [u64; 8]
+    ensures { result ≡ said (refused_with number (value ∷ [])) }
 {
     [number, value as u64, 0, 0, 0, 0, 0, 0]
 }
 
+// Of a fault by its number, with device place and adapter number.
+fn sited(number: u64, site: Site) -> [u64; 8]
+    ensures { result ≡ said (refused_with number (at site)) }
+{
+    [
+        number,
+        site.place as u64,
+        site.adapter as u64,
+        0,
+        0,
+        0,
+        0,
+        0,
+    ]
+}
+
+// Of a fault.
+fn faulted(fault: Fault) -> [u64; 8]
+    ensures { result ≡ said (refusal_of fault) }
+{
+    match fault {
+        Fault::FewRegisters(site) => sited(5, site),
+        Fault::NoField(site) => sited(6, site),
+        Fault::BadAdapters(place) => [7, place as u64, 0, 0, 0, 0, 0, 0],
+        Fault::GenTOffset(site) => sited(8, site),
+        Fault::NoPathDump(site) => sited(9, site),
+        Fault::NoOutAdapter(site) => sited(10, site),
+        Fault::NoParentRoute(site) => sited(11, site),
+        Fault::NoDownstreamRoute(site) => sited(12, site),
+        Fault::Endless => [13, 0, 0, 0, 0, 0, 0, 0],
+    }
+}
+
+// A refusal's number and values.
+pub fn refused(refusal: Refusal) -> [u64; 8]
+    ensures { result ≡ said (refused_by refusal) }
+{
+    match refusal {
+        Refusal::NotAscii(place) => valued(1, place),
+        Refusal::Short(need) => valued(2, need),
+        Refusal::Descriptions(place) => valued(3, place),
+        Refusal::Survey(place) => valued(4, place),
+        Refusal::NoField => [6, 0, 0, 0, 0, 0, 0, 0],
+        Refusal::Fault(fault) => faulted(fault),
+        Refusal::Missing => [14, 0, 0, 0, 0, 0, 0, 0],
+    }
+}
+
 // A result of one number.
 fn result(n: u64) -> [u64; 8]
-    ensures { result ≡ said (value (some (one n))) }
+    ensures { result ≡ said (value (Some (one n))) }
 {
     [0, 1, n, 0, 0, 0, 0, 0]
 }
 
 // A hex number of 16, 32 or 64 bits, as a number; none for any other width.
-fn hex_of_bits(text: &[u8], bits: u32) -> Number
+fn hex_of_bits(text: &[u8], bits: u32) -> Option<u64>
     ensures { result ≡ hex_of_bits bits text.now }
 {
     if bits == 16 {
@@ -41,25 +84,25 @@ fn hex_of_bits(text: &[u8], bits: u32) -> Number
     if bits == 64 {
         return util::parse_hex(text, util::MAX_64);
     }
-    Number::None
+    None
 }
 
 // A hex number of 16, 32 or 64 bits.
 pub fn hex(text: &[u8], bits: u32) -> [u64; 8]
-    ensures { result ≡ said (perhaps one (number_outcome (hex_of_bits bits text.now))) }
+    ensures { result ≡ said (perhaps one (value (hex_of_bits bits text.now))) }
 {
     match hex_of_bits(text, bits) {
-        Number::Value(v) => result(v),
-        Number::None => [0; 8],
+        Some(v) => result(v),
+        None => [0; 8],
     }
 }
 
 // A line's record, or none.
-pub fn line(answer: Line) -> [u64; 8]
-    ensures { result ≡ said (perhaps register_words (line_outcome answer)) }
+pub fn line(answer: Result<Option<Register>, Refusal>) -> [u64; 8]
+    ensures { result ≡ said (perhaps register_words (outcome answer)) }
 {
     match answer {
-        Line::Record(r) => [
+        Ok(Some(r)) => [
             0,
             1,
             r.offset as u64,
@@ -69,30 +112,27 @@ pub fn line(answer: Line) -> [u64; 8]
             r.value as u64,
             0,
         ],
-        Line::None => [0; 8],
-        Line::NotAscii(p) => refused(1, p),
+        Ok(None) => [0; 8],
+        Err(refusal) => refused(refusal),
     }
 }
 
 // A dump's number of records.
-pub fn dump(answer: Dump) -> [u64; 8]
-    ensures { result ≡ said (always one (dump_outcome answer)) }
+pub fn dump(answer: Result<usize, Refusal>) -> [u64; 8]
+    ensures { result ≡ said (always one (outcome answer)) }
 {
     match answer {
-        Dump::Records(n) => result(n as u64),
-        Dump::NotAscii(p) => refused(1, p),
-        Dump::Short(n) => refused(2, n),
+        Ok(records) => result(records as u64),
+        Err(refusal) => refused(refusal),
     }
 }
 
 // The number of a text's survey words.
-pub fn text(answer: TextAnswer) -> [u64; 8]
-    ensures { result ≡ said (always one (text_outcome answer)) }
+pub fn text(answer: Result<usize, Refusal>) -> [u64; 8]
+    ensures { result ≡ said (always one (outcome answer)) }
 {
     match answer {
-        TextAnswer::Words(n) => result(n as u64),
-        TextAnswer::Short(n) => refused(2, n),
-        TextAnswer::NotAscii(p) => refused(1, p),
-        TextAnswer::Wrong(p) => refused(4, p),
+        Ok(words) => result(words as u64),
+        Err(refusal) => refused(refusal),
     }
 }

@@ -1,11 +1,11 @@
 -- Laws on the search for an adapter's head. Assumes nothing.
+use Rattle.std.specs.Prelude.{None, Some}
 use Prim.Native.Nat.{ℕ, zero, suc, ◌+◌, ◌-◌, ◌%◌, ◌<◌, ◌≤◌}
 use native.Mathlib.Omega.{arith}
 use native.Mathlib.Decide.{dec_lt}
 use mathlib.Core.Path.{◌≡◌, refl, sym, ap, ◌∙◌}
 use mathlib.Core.Bool.{Bool, cond}
 use mathlib.Core.List.{List, [], ◌∷◌}
-use mathlib.Core.Option.{some}
 use lib.Dec.{eqb}
 use lib.ListN.{length}
 use borrow.Author.Tests.{eq-eqb, ne_eqb}
@@ -16,7 +16,6 @@ use Rattle.listing.proofs.Laws.{after_end, adapter_head_lem, device_head_lem}
 use Rattle.numbering.proofs.Laws.{none_left, none_here, some_here}
 use Rattle.capabilities.specs.Capability.{numbered_in, said_adapter}
 use Rattle.capabilities.specs.Work.{head_outcome}
-use Rattle.capabilities.specs.declared.HeadFound.TheVariants as head
 
 -- heads one after another
 module _ (t : List ℕ) (i r : ℕ) (n : NextHead t i r) where
@@ -48,31 +47,31 @@ module _ (t : List ℕ) (from number : ℕ) where
   seek_first i n = record { start = from; next = n; so_far = refl }
 
   module _ (i : ℕ) (h : Seeking i) where
-    seek_none : (after t h.start).adapters ≡ [] → head_outcome t head.Nowhere ≡ numbered_in number (after t from).adapters
+    seek_none : (after t h.start).adapters ≡ [] → head_outcome t None ≡ numbered_in number (after t from).adapters
     unfolding head_outcome numbered_in
     seek_none e = sym (h.so_far ∙ ap (λ l. numbered_in number l) e)
 
-    pub seek_past : length t ≤ i → head_outcome t head.Nowhere ≡ numbered_in number (after t from).adapters
+    pub seek_past : length t ≤ i → head_outcome t None ≡ numbered_in number (after t from).adapters
     seek_past l = seek_none (none_left t h.start i h.next l)
 
     module _ (l : i < length t) where
-      pub seek_device : (kind (word t i) ≡ 4 → ⊥) → head_outcome t head.Nowhere ≡ numbered_in number (after t from).adapters
+      pub seek_device : (kind (word t i) ≡ 4 → ⊥) → head_outcome t None ≡ numbered_in number (after t from).adapters
       seek_device k = seek_none (none_here t h.start i h.next l k)
 
       module _ (k : kind (word t i) ≡ 4) where
-        turn : numbered_in number (after t from).adapters ≡ cond (eqb (word t i % 256) number) (some (adapter_at t i)) (numbered_in number (after t (i + 1)).adapters)
+        turn : numbered_in number (after t from).adapters ≡ cond (eqb (word t i % 256) number) (Some (adapter_at t i)) (numbered_in number (after t (i + 1)).adapters)
         unfolding numbered_in adapter_at
         turn = h.so_far ∙ ap (λ l. numbered_in number l) (some_here t h.start i h.next l k)
 
-        pub seek_here : word t i % 256 ≡ number → head_outcome t (head.Head i) ≡ numbered_in number (after t from).adapters
+        pub seek_here : word t i % 256 ≡ number → head_outcome t (Some i) ≡ numbered_in number (after t from).adapters
         unfolding head_outcome
-        seek_here e = sym (turn ∙ ap (λ (b : Bool). cond b (some (adapter_at t i)) (numbered_in number (after t (i + 1)).adapters)) (eq-eqb _ _ e))
+        seek_here e = sym (turn ∙ ap (λ (b : Bool). cond b (Some (adapter_at t i)) (numbered_in number (after t (i + 1)).adapters)) (eq-eqb _ _ e))
 
         pub seek_on : (word t i % 256 ≡ number → ⊥) → (j : ℕ) → NextHead t (i + 1) j → Seeking j
         seek_on e j n = record {
           start = i + 1;
           next = n;
-          so_far = turn ∙ ap (λ (b : Bool). cond b (some (adapter_at t i)) (numbered_in number (after t (i + 1)).adapters)) (ne_eqb _ _ e);
+          so_far = turn ∙ ap (λ (b : Bool). cond b (Some (adapter_at t i)) (numbered_in number (after t (i + 1)).adapters)) (ne_eqb _ _ e);
         }
 
 -- the loop of find_head: the device that is left places further on from a place
@@ -97,7 +96,7 @@ module _ (t : List ℕ) (place number : ℕ) where
   place_first i n = record { start = 0; next = n; so_far = refl }
 
   module _ (left i : ℕ) (h : Placing left i) where
-    pub place_past : length t ≤ i → head_outcome t head.Nowhere ≡ said_adapter (devices_of t) place number
+    pub place_past : length t ≤ i → head_outcome t None ≡ said_adapter (devices_of t) place number
     unfolding head_outcome said_adapter
     place_past l = sym (h.so_far ∙ ap (λ ds. said_adapter ds left number) (no_devices t h.start i h.next l))
 

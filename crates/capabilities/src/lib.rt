@@ -2,49 +2,35 @@
 #![tactic(auto)]
 
 ghost use Rattle.std.specs.Prelude.{◌≡◌};
+ghost use Rattle.refusal.specs.Refusal.{outcome};
 ghost use Rattle.survey.specs.Devices.{devices_of};
 ghost use Rattle.listing.specs.After.{after};
-ghost use Rattle.capabilities.specs.Capability.{numbered_in, said_adapter, capability_answer, capability_outcome};
+ghost use Rattle.capabilities.specs.Capability.{numbered_in, said_adapter, capability_answer};
 ghost use Rattle.capabilities.specs.Work.{head_outcome};
 
-use adapter::CapFound;
-use load::{LoadAnswer, Refusal};
-
-// A part of the adapter's registers, by indices: from start up to end, which is left out.
-#[derive(Clone, Copy)]
-pub enum CapAnswer {
-    Part { start: usize, end: usize },
-    None,
-    Refused(Refusal),
-}
-
-// Where the head of an adapter stands.
-#[derive(Clone, Copy)]
-pub enum HeadFound {
-    Head(usize),
-    Nowhere,
-}
+use adapter::Part;
+use refusal::Refusal;
 
 // Where the adapter with a number has its head, of those from a place on up to the next device.
-fn head_from(survey: &[u32], from: usize, number: u8) -> HeadFound
+fn head_from(survey: &[u32], from: usize, number: u8) -> Option<usize>
     ensures { head_outcome survey.now result ≡ numbered_in number (after survey.now from).adapters }
 {
     let mut i = listing::next_head(survey, from);
     while i < survey.len() {
         let w = survey[i];
         if w / 268435456 % 16 != 4 {
-            return HeadFound::Nowhere;
+            return None;
         }
         if w % 256 == number as u32 {
-            return HeadFound::Head(i);
+            return Some(i);
         }
         i = listing::next_head(survey, i + 1);
     }
-    HeadFound::Nowhere
+    None
 }
 
 // Where an adapter of the device at a place has its head.
-fn find_head(survey: &[u32], place: usize, number: u8) -> HeadFound
+fn find_head(survey: &[u32], place: usize, number: u8) -> Option<usize>
     ensures { head_outcome survey.now result ≡ said_adapter (devices_of survey.now) place number }
 {
     let mut left = place;
@@ -60,7 +46,7 @@ fn find_head(survey: &[u32], place: usize, number: u8) -> HeadFound
             i = listing::next_head(survey, i + 4);
         }
     }
-    HeadFound::Nowhere
+    None
 }
 
 // The capability part: the registers from the first with the cap id after index 0 up to the last.
@@ -70,20 +56,14 @@ pub fn capability(
     place: usize,
     number: u8,
     cap: u32,
-) -> CapAnswer
-    ensures { capability_outcome result ≡ capability_answer descriptions.now survey.now place number cap }
+) -> Result<Option<Part>, Refusal>
+    ensures { outcome result ≡ capability_answer descriptions.now survey.now place number cap }
 {
     let loaded = load::load(descriptions, survey);
     let answer = loaded.answer;
-    if let LoadAnswer::Refused(refusal) = answer {
-        return CapAnswer::Refused(refusal);
-    }
-    let HeadFound::Head(at) = find_head(survey, place, number) else {
-        return CapAnswer::Refused(Refusal::Missing);
+    answer?;
+    let Some(at) = find_head(survey, place, number) else {
+        return Err(Refusal::Missing);
     };
-    let found = adapter::capability(survey, at, cap);
-    match found {
-        CapFound::Part { start, end } => CapAnswer::Part { start, end },
-        CapFound::None => CapAnswer::None,
-    }
+    Ok(adapter::capability(survey, at, cap))
 }

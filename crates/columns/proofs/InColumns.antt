@@ -1,4 +1,5 @@
 -- Laws on lines in the columns that the kernel prints: words, the spaces between them, and the numbers that they write. Assumes nothing.
+use Rattle.std.specs.Prelude.{Err, None, Ok, Option, Some}
 use Prim.Native.Nat.{ℕ, zero, suc, ◌+◌, ◌-◌, ◌/◌, ◌%◌, ◌<◌, ◌≤◌}
 use native.Mathlib.Omega.{arith}
 use native.Mathlib.Numerals.{add-one}
@@ -12,22 +13,14 @@ use lib.ListN.{length, get_or, take, drop, length-drop, drop_of_length-le}
 use lib.Seq.{drop-cons, drop-drop, take-nil, take-add, length-take-le, get_or-take, get_or-drop}
 use borrow.Author.Tests.{lt-ltb, le-leb, ltb-true, eqb-true, ne_eqb}
 use Rattle.util.specs.Number.{digit_of, value_of, are_digits, after_prefix, after_plus, number_of, hex_number, decimal_number}
-use Rattle.util.specs.declared.Number.TheVariants.{Value, None}
 use Rattle.scan.specs.Scan.{is_space, is_line_feed, place_from, on_first, pieces, filled, tokens}
 use Rattle.scan.proofs.Laws.{space_above, place_here, place_on, place_end, place_within}
 use Rattle.register.specs.Line.{max16, max32, is_comment, with_token, register_of, four_tokens, five_tokens, by_tokens, meaning}
 use Rattle.columns.specs.Lines.{MetAt}
 use Rattle.register.specs.declared.Register.{Register}
 use Rattle.register.specs.declared.Skip.TheVariants.{Few}
-use Rattle.register.specs.declared.Met.TheVariants.{Record, Skipped}
 use Rattle.columns.specs.declared.LineAt.{LineAt}
 use Rattle.columns.specs.declared.Front.{Front}
-use Rattle.columns.specs.declared.Fronts.{Fronts}
-use Rattle.columns.specs.declared.Fronts.TheVariants.{Read}
-use Rattle.columns.specs.declared.Columns.{Columns}
-use Rattle.columns.specs.declared.Columns.TheVariants as columns
-use Rattle.columns.specs.declared.Quick.{Quick}
-use Rattle.columns.specs.declared.Quick.TheVariants.{Found}
 use Rattle.columns.specs.Work.{packed, Digits, Spells, Parted, Prefix, Run, Ends, FrontAt, FrontsAt, ColumnsAt, QuickAt}
 use Rattle.columns.proofs.Packed.{digit_first, digits_parted}
 
@@ -177,11 +170,11 @@ not_plus : (b : ℕ) (w : List ℕ) → are_digits 16 (b ∷ w) ≡ true → aft
 unfolding after_plus
 not_plus b w e = ap (λ t. cond t w (b ∷ w)) (ne_eqb b 43 (λ q. omega (arith, q, digit_above b (digit_first b w e).0)))
 
-number_value : (max v b : ℕ) (w : List ℕ) → Digits (b ∷ w) v → v ≤ max → number_of 16 max (b ∷ w) ≡ Value v
+number_value : (max v b : ℕ) (w : List ℕ) → Digits (b ∷ w) v → v ≤ max → number_of 16 max (b ∷ w) ≡ Some v
 unfolding number_of
 number_value max v b w d l = simp (lt-ltb 0 (length (b ∷ w)) (omega arith), d.all_digits, d.value_is, le-leb v max l)
 
-hex_value : (max v : ℕ) (w : List ℕ) → 0 < length w → Digits w v → v ≤ max → hex_number max (48 ∷ 120 ∷ w) ≡ Value v
+hex_value : (max v : ℕ) (w : List ℕ) → 0 < length w → Digits w v → v ≤ max → hex_number max (48 ∷ 120 ∷ w) ≡ Some v
 unfolding hex_number after_prefix
 hex_value max v [] h d l = absurd (omega arith)
 hex_value max v (b ∷ w) h d l = ap (λ t. number_of 16 max t) (not_plus b w d.all_digits) ∙ number_value max v b w d l
@@ -195,11 +188,11 @@ and_right true b e = e
 and_right false b e = absurd (false≢true e)
 
 -- a decimal number has no separator in it
-number_digits : (base max : ℕ) (w : List ℕ) (v : ℕ) → number_of base max w ≡ Value v → are_digits base w ≡ true
+number_digits : (base max : ℕ) (w : List ℕ) (v : ℕ) → number_of base max w ≡ Some v → are_digits base w ≡ true
 unfolding number_of
 number_digits base max w v = step (ltb 0 (length w) && are_digits base w && leb (value_of base 0 w) max) refl
   where
-    step : (t : Bool) → ltb 0 (length w) && are_digits base w && leb (value_of base 0 w) max ≡ t → cond t (Value (value_of base 0 w)) None ≡ Value v → are_digits base w ≡ true
+    step : (t : Bool) → ltb 0 (length w) && are_digits base w && leb (value_of base 0 w) max ≡ t → cond t (Some (value_of base 0 w)) None ≡ Some v → are_digits base w ≡ true
     step true h e = and_right (ltb 0 (length w)) (are_digits base w) (and_left (ltb 0 (length w) && are_digits base w) (leb (value_of base 0 w) max) h)
     step false h e = absurd (let z : ◌≡◌ {A = ℕ} 0 1 = cc in omega arith)
 
@@ -211,12 +204,12 @@ solid_hex : (w : List ℕ) → solid w ≡ true → solid (48 ∷ 120 ∷ w) ≡
 unfolding solid is_space
 solid_hex w e = e
 
-decimal_solid : (max : ℕ) (w : List ℕ) (v : ℕ) → decimal_number max w ≡ Value v → solid w ≡ true
+decimal_solid : (max : ℕ) (w : List ℕ) (v : ℕ) → decimal_number max w ≡ Some v → solid w ≡ true
 unfolding decimal_number after_plus solid
 decimal_solid max [] v e = refl
 decimal_solid max (b ∷ w) v e = step (eqb b 43) refl e
   where
-    step : (t : Bool) → eqb b 43 ≡ t → number_of 10 max (cond t w (b ∷ w)) ≡ Value v → solid (b ∷ w) ≡ true
+    step : (t : Bool) → eqb b 43 ≡ t → number_of 10 max (cond t w (b ∷ w)) ≡ Some v → solid (b ∷ w) ≡ true
     step true q z = ap (λ x. solid (x ∷ w)) (eqb-true b 43 q) ∙ solid_plus w (all_solid 10 w (omega arith) (number_digits 10 max w v z))
     step false q z = all_solid 10 (b ∷ w) (omega arith) (number_digits 10 max (b ∷ w) v z)
 
@@ -227,7 +220,7 @@ module _ (s : List ℕ) where
   hex_solid : (i j n v : ℕ) → i + 2 ≡ j → j ≤ length s → Prefix s i → Digits (take n (drop j s)) v → solid (take (suc (suc n)) (drop i s)) ≡ true
   hex_solid i j n v q h p d = ap solid (hex_bytes i n (omega arith) p) ∙ solid_hex (take n (drop (i + 2) s)) (all_solid 16 (take n (drop (i + 2) s)) (omega arith) (ap (λ k. are_digits 16 (take n (drop k s))) q ∙ d.all_digits))
 
-  hex_number_lem : (max i j n v : ℕ) → i + 2 ≡ j → 0 < n → j + n ≤ length s → Prefix s i → Digits (take n (drop j s)) v → v ≤ max → hex_number max (take (suc (suc n)) (drop i s)) ≡ Value v
+  hex_number_lem : (max i j n v : ℕ) → i + 2 ≡ j → 0 < n → j + n ≤ length s → Prefix s i → Digits (take n (drop j s)) v → v ≤ max → hex_number max (take (suc (suc n)) (drop i s)) ≡ Some v
   hex_number_lem max i j n v q pos h p d l = ap (λ w. hex_number max w) (hex_bytes i n (omega arith) p ∙ ap (λ k. 48 ∷ 120 ∷ take n (drop k s)) q) ∙ hex_value max v (take n (drop j s)) (omega (arith, length-take-le n (drop j s) (omega (arith, length-drop j s)))) d l
 
   -- a word of `0x` and n digits, and the space after it
@@ -246,7 +239,7 @@ module _ (s : List ℕ) where
   no_comment i n h e = ap (λ b. eqb b 35) (get_or-take n (drop i s) 0 0 h ∙ get_or-drop i s 0 0 ∙ ap (λ k. get_or s k 0) (add-zero i) ∙ e)
 
   module _ (i : ℕ) where
-    pub front_at : (k n r start : ℕ) → i + 17 ≤ length s → get_or s (i + 16) 0 ≡ 32 → Prefix s i → get_or s (i + 6) 0 ≡ 32 → get_or s (i + 11) 0 ≡ 32 → Prefix s (i + 11 + 1) → Parted s (i + 2) (i + 14) k n → n ≤ 0xffffffff → start ≤ i + 7 + 3 → Run s (i + 7) start [] → decimal_number max16 (take (i + 11 - start) (drop start s)) ≡ Value r → FrontAt s i k (record { offset = n / 65536; relative_offset = r; cap_id = n / 256 % 256; vs_cap_id = n % 256 })
+    pub front_at : (k n r start : ℕ) → i + 17 ≤ length s → get_or s (i + 16) 0 ≡ 32 → Prefix s i → get_or s (i + 6) 0 ≡ 32 → get_or s (i + 11) 0 ≡ 32 → Prefix s (i + 11 + 1) → Parted s (i + 2) (i + 14) k n → n ≤ 0xffffffff → start ≤ i + 7 + 3 → Run s (i + 7) start [] → decimal_number max16 (take (i + 11 - start) (drop start s)) ≡ Some r → FrontAt s i k (record { offset = n / 65536; relative_offset = r; cap_id = n / 256 % 256; vs_cap_id = n % 256 })
     front_at k n r start h b16 p b6 b11 p12 d l before-word pad e = record {
       first = p.zero_there;
       token0 = take 6 (drop i s);
@@ -267,18 +260,18 @@ module _ (s : List ℕ) where
         middle = run_word s start (i + 11 - start) (i + 12) (omega arith) (omega arith) (omega arith) (decimal_solid max16 (take (i + 11 - start) (drop start s)) r e) (ap (λ k. get_or s k 0) (let q : start + (i + 11 - start) ≡ i + 11 = omega arith in q) ∙ b11)
 
 -- what the tokens of a line give
-module _ (l a b c d : List ℕ) (o r x : ℕ) (plain : is_comment l ≡ false) (ea : hex_number max16 a ≡ Value o) (eb : decimal_number max16 b ≡ Value r) where
-  meaning_four : tokens l ≡ a ∷ b ∷ c ∷ d ∷ [] → hex_number max32 d ≡ Value x → Record (register_of o r 0 0 x) ≡ meaning l
+module _ (l a b c d : List ℕ) (o r x : ℕ) (plain : is_comment l ≡ false) (ea : hex_number max16 a ≡ Some o) (eb : decimal_number max16 b ≡ Some r) where
+  meaning_four : tokens l ≡ a ∷ b ∷ c ∷ d ∷ [] → hex_number max32 d ≡ Some x → Ok (register_of o r 0 0 x) ≡ meaning l
   unfolding meaning by_tokens four_tokens with_token
   meaning_four ts ed = sym (simp (plain, ts, ea, eb, ed))
 
-  meaning_five : (e : List ℕ) (cap vs : ℕ) → tokens l ≡ a ∷ b ∷ c ∷ d ∷ e ∷ [] → hex_number max16 c ≡ Value cap → hex_number max16 d ≡ Value vs → hex_number max32 e ≡ Value x → Record (register_of o r cap vs x) ≡ meaning l
+  meaning_five : (e : List ℕ) (cap vs : ℕ) → tokens l ≡ a ∷ b ∷ c ∷ d ∷ e ∷ [] → hex_number max16 c ≡ Some cap → hex_number max16 d ≡ Some vs → hex_number max32 e ≡ Some x → Ok (register_of o r cap vs x) ≡ meaning l
   unfolding meaning by_tokens five_tokens with_token
   meaning_five e cap vs ts ec ed ee = sym (simp (plain, ts, ea, eb, ec, ed, ee))
 
 -- lines of 27 and of 32 bytes
 module _ (s : List ℕ) (i k : ℕ) (f : Front) (x : ℕ) (front : FrontAt s i k f) (l : x ≤ 0xffffffff) where
-  pub four_columns : Ends s i 27 → Prefix s (i + 16 + 1) → Digits (take 8 (drop (i + 19) s)) x → (i + 27 ≡ place_from is_line_feed s i) × (Record (register_of f.offset f.relative_offset 0 0 x) ≡ meaning (take 27 (drop i s)))
+  pub four_columns : Ends s i 27 → Prefix s (i + 16 + 1) → Digits (take 8 (drop (i + 19) s)) x → (i + 27 ≡ place_from is_line_feed s i) × (Ok (register_of f.offset f.relative_offset 0 0 x) ≡ meaning (take 27 (drop i s)))
   four_columns n p e = (
     line_ends s i 27 (i + 17) 10 (omega arith) n front.run w,
     meaning_four (take 27 (drop i s)) front.token0 front.token1 front.token2 (take 10 (drop (i + 17) s)) f.offset f.relative_offset x (no_comment s i 27 (omega arith) front.first) front.offset_is front.relative_is (line_tokens s i 27 (i + 17) 10 (omega arith) (omega arith) n (front.token0 ∷ front.token1 ∷ front.token2 ∷ []) front.run w) (hex_number_lem s max32 (i + 17) (i + 19) 8 x (omega arith) (omega arith) (omega (arith, n.within)) p' e l),
@@ -290,7 +283,7 @@ module _ (s : List ℕ) (i k : ℕ) (f : Front) (x : ℕ) (front : FrontAt s i k
       w : solid (take 10 (drop (i + 17) s)) ≡ true
       w = hex_solid s (i + 17) (i + 19) 8 x (omega arith) (omega (arith, n.within)) p' e
 
-  pub five_columns : k ≡ i + 19 → Ends s i 32 → Prefix s (i + 16 + 1) → get_or s (i + 21) 0 ≡ 32 → Prefix s (i + 21 + 1) → Digits (take 8 (drop (i + 24) s)) x → (i + 32 ≡ place_from is_line_feed s i) × (Record (register_of f.offset f.relative_offset f.cap_id f.vs_cap_id x) ≡ meaning (take 32 (drop i s)))
+  pub five_columns : k ≡ i + 19 → Ends s i 32 → Prefix s (i + 16 + 1) → get_or s (i + 21) 0 ≡ 32 → Prefix s (i + 21 + 1) → Digits (take 8 (drop (i + 24) s)) x → (i + 32 ≡ place_from is_line_feed s i) × (Ok (register_of f.offset f.relative_offset f.cap_id f.vs_cap_id x) ≡ meaning (take 32 (drop i s)))
   five_columns u n p b q e = (
     line_ends s i 32 (i + 22) 10 (omega arith) n run w,
     meaning_five (take 32 (drop i s)) front.token0 front.token1 front.token2 (take 4 (drop (i + 17) s)) f.offset f.relative_offset x (no_comment s i 32 (omega arith) front.first) front.offset_is front.relative_is (take 10 (drop (i + 22) s)) f.cap_id f.vs_cap_id (line_tokens s i 32 (i + 22) 10 (omega arith) (omega arith) n ts run w) front.cap_is (hex_number_lem s max16 (i + 17) (i + 19) 2 f.vs_cap_id (omega arith) (omega arith) (omega (arith, n.within)) p' d (omega (arith, front.vs_small))) (hex_number_lem s max32 (i + 22) (i + 24) 8 x (omega arith) (omega arith) (omega (arith, n.within)) q' e l),
@@ -322,30 +315,30 @@ ends_feed s i n h e = record { within = omega arith; stops_there = place_here is
 pub ends_end : (s : List ℕ) (i n : ℕ) → i + n ≡ length s → Ends s i n
 ends_end s i n e = record { within = omega arith; stops_there = place_end is_line_feed s (i + n) (omega arith) }
 
-none_few : meaning [] ≡ Skipped Few
+none_few : meaning [] ≡ Err Few
 unfolding meaning by_tokens is_comment tokens pieces filled
 none_few = refl
 
 -- what an answer says, where it is known
 module _ (s : List ℕ) (i : ℕ) where
-  pub front_of : (k : ℕ) (o : Fronts) (f : Front) → o ≡ Read f → FrontsAt s i k o → FrontAt s i k f
+  pub front_of : (k : ℕ) (o : Option Front) (f : Front) → o ≡ Some f → FrontsAt s i k o → FrontAt s i k f
   unfolding FrontsAt
   front_of k o f e h = subst (λ x. FrontsAt s i k x) e h
 
-  pub columns_met : (n : ℕ) (o : Columns) (r : Register) → o ≡ columns.Record r → ColumnsAt s i n o → MetAt s i (record { met = Record r; end = i + n })
+  pub columns_met : (n : ℕ) (o : Option Register) (r : Register) → o ≡ Some r → ColumnsAt s i n o → MetAt s i (record { met = Ok r; end = i + n })
   unfolding ColumnsAt
   columns_met n o r e h =
       let k = subst (λ x. ColumnsAt s i n x) e h in
       (k.0, k.1 ∙ ap (λ m. meaning (take m (drop i s))) (let q : n ≡ i + n - i = omega arith in q))
 
-  pub quick_of : (o : Quick) (l : LineAt) → o ≡ Found l → QuickAt s i o → MetAt s i l
+  pub quick_of : (o : Option LineAt) (l : LineAt) → o ≡ Some l → QuickAt s i o → MetAt s i l
   unfolding QuickAt
   quick_of o l e h = subst (λ x. QuickAt s i x) e h
 
   -- past the end there is no line
-  pub past_few : (e : ℕ) → e ≡ place_from is_line_feed s i → length s < e → Skipped Few ≡ meaning (take (e - i) (drop i s))
+  pub past_few : (e : ℕ) → e ≡ place_from is_line_feed s i → length s < e → Err Few ≡ meaning (take (e - i) (drop i s))
   past_few e q h = go (dec_lt (length s) i)
     where
-      go : Dec (length s < i) → Skipped Few ≡ meaning (take (e - i) (drop i s))
+      go : Dec (length s < i) → Err Few ≡ meaning (take (e - i) (drop i s))
       go (yes l) = sym (ap meaning (ap (λ t. take (e - i) t) (drop_of_length-le s {i = i} (omega arith)) ∙ take-nil (e - i)) ∙ none_few)
       go (no l) = absurd (omega (arith, place_within is_line_feed s i (omega arith)))

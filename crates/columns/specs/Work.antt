@@ -1,18 +1,12 @@
 -- For the contracts of private functions only: lines in the columns that the kernel prints. No promise to a caller rests on these. Assumes nothing.
-use Rattle.std.specs.Prelude.{ℕ, ◌+◌, ◌-◌, ◌*◌, ◌/◌, ◌%◌, ◌<◌, ◌≤◌, ◌≡◌, true, List, [], ◌∷◌, ◌++◌, length, get_or, take, drop}
+use Rattle.std.specs.Prelude.{ℕ, ◌+◌, ◌-◌, ◌*◌, ◌/◌, ◌%◌, ◌<◌, ◌≤◌, ◌≡◌, true, List, [], ◌∷◌, ◌++◌, length, get_or, take, drop, None, Ok, Option, Some}
 use Rattle.util.specs.Number.{value_of, are_digits, hex_number, decimal_number}
-use Rattle.util.specs.declared.Number.TheVariants.{Value}
 use Rattle.scan.specs.Scan.{is_line_feed, place_from, tokens}
-use Rattle.register.specs.declared.Met.TheVariants as met
 use Rattle.columns.specs.declared.Front.{Front}
-use Rattle.columns.specs.declared.Fronts.{Fronts}
-use Rattle.columns.specs.declared.Fronts.TheVariants as fronts
-use Rattle.columns.specs.declared.Columns.{Columns}
-use Rattle.columns.specs.declared.Columns.TheVariants as columns
-use Rattle.columns.specs.declared.Quick.{Quick}
-use Rattle.columns.specs.declared.Quick.TheVariants as quick
 use Rattle.register.specs.Line.{max16, meaning}
 use Rattle.columns.specs.Lines.{MetAt}
+use Rattle.register.specs.declared.Register.{Register}
+use Rattle.columns.specs.declared.LineAt.{LineAt}
 
 -- above any number of eight digits: what stands for bytes that aren't all digits
 abbrev pub no_digits : ℕ
@@ -81,21 +75,21 @@ pub record FrontAt (s : List ℕ) (i k : ℕ) (f : Front) : Type 0 where
   pub token1 : List ℕ
   pub token2 : List ℕ
   pub run : Run s i (i + 17) (token0 ∷ token1 ∷ token2 ∷ [])
-  pub offset_is : hex_number max16 token0 ≡ Value f.offset
-  pub relative_is : decimal_number max16 token1 ≡ Value f.relative_offset
-  pub cap_is : hex_number max16 token2 ≡ Value f.cap_id
+  pub offset_is : hex_number max16 token0 ≡ Some f.offset
+  pub relative_is : decimal_number max16 token1 ≡ Some f.relative_offset
+  pub cap_is : hex_number max16 token2 ≡ Some f.cap_id
   pub vs_is : Digits (take 2 (drop k s)) f.vs_cap_id
   pub vs_small : f.vs_cap_id ≤ 255
 
-unfoldable pub FrontsAt : List ℕ → ℕ → ℕ → Fronts → Type 0
-FrontsAt s i k (fronts.Read f) = FrontAt s i k f
-FrontsAt s i k fronts.Other = Unit {0}
+unfoldable pub FrontsAt : List ℕ → ℕ → ℕ → Option Front → Type 0
+FrontsAt s i k (Some f) = FrontAt s i k f
+FrontsAt s i k None = Unit {0}
 
 -- the line of n bytes from i on, where it is read by its columns
-unfoldable pub ColumnsAt : List ℕ → ℕ → ℕ → Columns → Type 0
-ColumnsAt s i n (columns.Record r) = (i + n ≡ place_from is_line_feed s i) × (met.Record r ≡ meaning (take n (drop i s)))
-ColumnsAt s i n columns.Other = Unit {0}
+unfoldable pub ColumnsAt : List ℕ → ℕ → ℕ → Option Register → Type 0
+ColumnsAt s i n (Some r) = (i + n ≡ place_from is_line_feed s i) × (Ok r ≡ meaning (take n (drop i s)))
+ColumnsAt s i n None = Unit {0}
 
-unfoldable pub QuickAt : List ℕ → ℕ → Quick → Type 0
-QuickAt s i (quick.Found l) = MetAt s i l
-QuickAt s i quick.Other = Unit {0}
+unfoldable pub QuickAt : List ℕ → ℕ → Option LineAt → Type 0
+QuickAt s i (Some l) = MetAt s i l
+QuickAt s i None = Unit {0}

@@ -5,13 +5,13 @@ ghost use Rattle.std.specs.Prelude.{◌≡◌, true, [], ◌+◌, ◌<◌, ◌�
 ghost use Rattle.columns.specs.Lines.{MetAt};
 ghost use Rattle.columns.specs.Work.{no_digits, packed, Lanes, Joined, Spells, Digits, Parted, Prefix, Run, Ends, FrontsAt, ColumnsAt, QuickAt};
 
-use register::{Met, Register, Skip};
-use util::{MAX_16, MAX_32, Number};
+use register::{Register, Skip};
+use util::{MAX_16, MAX_32};
 
 // What a line of a text is, and where it ends: at LF, or at the end of the text.
 #[derive(Clone, Copy)]
 pub struct LineAt {
-    pub met: Met,
+    pub met: Result<Register, Skip>,
     pub end: usize,
 }
 
@@ -22,25 +22,6 @@ struct Front {
     relative_offset: u16,
     cap_id: u16,
     vs_cap_id: u16,
-}
-
-#[derive(Clone, Copy)]
-enum Fronts {
-    Read(Front),
-    Other,
-}
-
-// What a line in those columns gives; any other line is left to its tokens.
-#[derive(Clone, Copy)]
-enum Columns {
-    Record(Register),
-    Other,
-}
-
-#[derive(Clone, Copy)]
-enum Quick {
-    Found(LineAt),
-    Other,
 }
 
 // What stands for eight bytes that are not all digits: more than eight digits come to.
@@ -165,28 +146,28 @@ fn padded(s: &[u8], i: usize) -> usize
 }
 
 // `0xhhhh dddd 0xhh`, which a space follows, and two digits at another place: the hexadecimal ones are read together.
-fn read_front(s: &[u8], i: usize, k: usize) -> Fronts
+fn read_front(s: &[u8], i: usize, k: usize) -> Option<Front>
     requires { (i + 17 ≤ length s.now) × (k + 2 ≤ length s.now) × (get_or s.now (i + 16) 0 ≡ 32) }
     ensures { FrontsAt s.now i k result }
 {
     if !prefixed(s, i) {
-        return Fronts::Other;
+        return None;
     }
     if s[i + 6] != b' ' {
-        return Fronts::Other;
+        return None;
     }
     if !next_prefixed(s, i + 11) {
-        return Fronts::Other;
+        return None;
     }
     let ids = parted_digits(s, i + 2, i + 14, k);
     if MAX_32 < ids {
-        return Fronts::Other;
+        return None;
     }
     let start = padded(s, i + 7);
-    let Number::Value(relative) = util::parse_decimal(&s[start..i + 11], MAX_16) else {
-        return Fronts::Other;
+    let Some(relative) = util::parse_decimal(&s[start..i + 11], MAX_16) else {
+        return None;
     };
-    Fronts::Read(Front {
+    Some(Front {
         offset: (ids / 65536) as u16,
         relative_offset: relative as u16,
         cap_id: (ids / 256 % 256) as u16,
@@ -195,24 +176,24 @@ fn read_front(s: &[u8], i: usize, k: usize) -> Fronts
 }
 
 // `0xhhhh dddd 0xhh 0xhh 0xhhhhhhhh`, a line of 32 bytes: offset, relative offset, cap id, vs id, value.
-fn five_columns(s: &[u8], i: usize) -> Columns
+fn five_columns(s: &[u8], i: usize) -> Option<Register>
     requires { Ends s.now i 32 }
     ensures { ColumnsAt s.now i 32 result }
 {
     if !next_prefixed(s, i + 16) {
-        return Columns::Other;
+        return None;
     }
     if !next_prefixed(s, i + 21) {
-        return Columns::Other;
+        return None;
     }
-    let Fronts::Read(f) = read_front(s, i, i + 19) else {
-        return Columns::Other;
+    let Some(f) = read_front(s, i, i + 19) else {
+        return None;
     };
     let value = eight_digits(s, i + 24);
     if MAX_32 < value {
-        return Columns::Other;
+        return None;
     }
-    Columns::Record(Register {
+    Some(Register {
         offset: f.offset,
         relative_offset: f.relative_offset,
         cap_id: f.cap_id,
@@ -222,21 +203,21 @@ fn five_columns(s: &[u8], i: usize) -> Columns
 }
 
 // `0xhhhh dddd 0xhh 0xhhhhhhhh`, a line of 27 bytes: offset, relative offset, one that is ignored, value.
-fn four_columns(s: &[u8], i: usize) -> Columns
+fn four_columns(s: &[u8], i: usize) -> Option<Register>
     requires { Ends s.now i 27 }
     ensures { ColumnsAt s.now i 27 result }
 {
     if !next_prefixed(s, i + 16) {
-        return Columns::Other;
+        return None;
     }
-    let Fronts::Read(f) = read_front(s, i, i + 14) else {
-        return Columns::Other;
+    let Some(f) = read_front(s, i, i + 14) else {
+        return None;
     };
     let value = eight_digits(s, i + 19);
     if MAX_32 < value {
-        return Columns::Other;
+        return None;
     }
-    Columns::Record(Register {
+    Some(Register {
         offset: f.offset,
         relative_offset: f.relative_offset,
         cap_id: 0,
@@ -263,28 +244,28 @@ fn ends(s: &[u8], i: usize, n: usize) -> bool
 }
 
 // A line in the columns that the kernel prints.
-fn by_columns(s: &[u8], at: usize) -> Quick
+fn by_columns(s: &[u8], at: usize) -> Option<LineAt>
     ensures { QuickAt s.now at result }
 {
     if ends(s, at, 32) {
-        let Columns::Record(r) = five_columns(s, at) else {
-            return Quick::Other;
+        let Some(r) = five_columns(s, at) else {
+            return None;
         };
-        return Quick::Found(LineAt {
-            met: Met::Record(r),
+        return Some(LineAt {
+            met: Ok(r),
             end: at + 32,
         });
     }
     if ends(s, at, 27) {
-        let Columns::Record(r) = four_columns(s, at) else {
-            return Quick::Other;
+        let Some(r) = four_columns(s, at) else {
+            return None;
         };
-        return Quick::Found(LineAt {
-            met: Met::Record(r),
+        return Some(LineAt {
+            met: Ok(r),
             end: at + 27,
         });
     }
-    Quick::Other
+    None
 }
 
 // Any line.
@@ -294,7 +275,7 @@ fn by_tokens(s: &[u8], at: usize) -> LineAt
     let end = scan::line_end(s, at);
     if s.len() < end {
         return LineAt {
-            met: Met::Skipped(Skip::Few),
+            met: Err(Skip::Few),
             end,
         };
     }
@@ -306,7 +287,7 @@ fn by_tokens(s: &[u8], at: usize) -> LineAt
 pub fn read_at(s: &[u8], at: usize) -> LineAt
     ensures { MetAt s.now at result }
 {
-    let Quick::Found(l) = by_columns(s, at) else {
+    let Some(l) = by_columns(s, at) else {
         return by_tokens(s, at);
     };
     l

@@ -1,10 +1,8 @@
 -- Document 01, "Words" and refusal 3: when a description group breaks the rules. Assumes nothing.
-use Rattle.std.specs.Prelude.{ℕ, zero, suc, ◌+◌, ◌*◌, Bool, true, false, cond, ◌&&◌, ◌||◌, List, [], ◌∷◌, ltb, leb, eqb, length}
+use Rattle.std.specs.Prelude.{ℕ, zero, suc, ◌+◌, ◌*◌, Bool, true, false, cond, ◌&&◌, ◌||◌, List, [], ◌∷◌, ltb, leb, eqb, length, Err, Ok, Result}
 use Rattle.refusal.specs.Outcome.{Outcome, refused, value, bind}
 use Rattle.layout.specs.Layout.{bits, word, kind, space, has_cap, has_vs, name_len, cap_id, vs_id, listed, kinds, start, end, field_len, short_len, name_words, name_at, field_at, short_at, byte_at, size_of, heads}
 use Rattle.layout.specs.Description.{Description, descriptions_of}
-use Rattle.description.specs.declared.Checked.{Checked}
-use Rattle.description.specs.declared.Checked.TheVariants.{WellFormed, Refused}
 
 -- a list of descriptions holds at most 16,384 words
 abbrev pub max_words : ℕ
@@ -71,8 +69,3 @@ check_of t = cond (ltb max_words (length t)) (refused 3 (max_words ∷ [])) (fir
 -- the descriptions of a list that is well formed
 unfoldable pub read_descriptions : List ℕ → Outcome (List Description)
 read_descriptions t = bind (check_of t) (λ ok. value (descriptions_of t))
-
--- document 01's number and values for what `check` answers
-unfoldable pub checked_outcome : Checked → Outcome Unit
-checked_outcome WellFormed = value tt
-checked_outcome (Refused p) = refused 3 (p ∷ [])

@@ -2,17 +2,13 @@
 #![tactic(auto)]
 
 ghost use Rattle.std.specs.Prelude.{◌≡◌, ◌<◌, length};
-ghost use Rattle.description.specs.Rules.{good_byte, good_name, zero_unless, good_head, good_range, good_register, good_field, good_group, check_of, checked_outcome};
+ghost use Rattle.description.specs.Rules.{good_byte, good_name, zero_unless, good_head, good_range, good_register, good_field, good_group, check_of};
+ghost use Rattle.refusal.specs.Refusal.{outcome};
+
+use refusal::Refusal;
 
 // A list of descriptions holds at most so many words.
 pub const MAX_WORDS: usize = 16384;
-
-// Whether a list of descriptions is well formed, or the place of the group where it is refused (3).
-#[derive(Clone, Copy)]
-pub enum Checked {
-    WellFormed,
-    Refused(usize),
-}
 
 // Byte j of a name of n bytes, or of its padding.
 fn good_byte(n: u32, j: u32, b: u32) -> bool
@@ -149,18 +145,18 @@ fn good_group(t: &[u32], i: usize) -> bool
 }
 
 // Whether the words are well formed; refused (3) with 16,384 if they are too many, else with the head place of the first group that breaks the rules.
-pub fn check(descriptions: &[u32]) -> Checked
-    ensures { checked_outcome result ≡ check_of descriptions.now }
+pub fn check(descriptions: &[u32]) -> Result<(), Refusal>
+    ensures { outcome result ≡ check_of descriptions.now }
 {
     if MAX_WORDS < descriptions.len() {
-        return Checked::Refused(MAX_WORDS);
+        return Err(Refusal::Descriptions(MAX_WORDS));
     }
     let mut i: usize = 0;
     while i < descriptions.len() {
         if !good_group(descriptions, i) {
-            return Checked::Refused(i);
+            return Err(Refusal::Descriptions(i));
         }
         i += layout::group_size(layout::word_at(descriptions, i));
     }
-    Checked::WellFormed
+    Ok(())
 }

@@ -1,19 +1,16 @@
 -- Document 01, module 6 on a loaded survey: depth, upstream adapter and routes. 3, 4, loading, 14, then 6, 11 or 12 as met. Assumes nothing.
-use Rattle.std.specs.Prelude.{ℕ, Bool, List}
-use Rattle.std.proofs.Math.Option.{Option, none, some}
+use Rattle.std.specs.Prelude.{Option, Err, Ok, Result, ℕ, Bool, List}
 use Rattle.refusal.specs.Outcome.{Outcome, value, bind}
 use Rattle.usb4.specs.declared.Kind.{Kind}
 use Rattle.route.specs.Route.{depth_of}
 use Rattle.adapter.specs.Adapter.{AdapterRow}
 use Rattle.tables.specs.Rows.{DeviceRow, adapter_in}
 use Rattle.load.specs.Loading.{loaded}
-use Rattle.load.specs.Answers.{refused_by, present, asked_device}
+use Rattle.load.specs.Answers.{present, asked_device}
+use Rattle.refusal.specs.Refusal.{refused_by}
 use Rattle.fabric.specs.Links.{upstream_route_of, downstream_route_of}
 use Rattle.devices.specs.declared.DeviceInfo.{DeviceInfo}
-use Rattle.devices.specs.declared.DeviceAnswer.{DeviceAnswer}
-use Rattle.devices.specs.declared.DeviceAnswer.TheVariants as device-answer
-use Rattle.devices.specs.declared.UpstreamAnswer.{UpstreamAnswer}
-use Rattle.devices.specs.declared.UpstreamAnswer.TheVariants as upstream-answer
+use Rattle.refusal.specs.declared.Refusal.{Refusal}
 
 -- what is said of a device that was loaded
 pub record Info : Type 0 where
@@ -47,11 +44,6 @@ downstream_route_answer t s p a = on_adapter t s p a (downstream_route_of p)
 unfoldable pub info_in : DeviceInfo → Info
 info_in i = record { kind = i.kind; usb4 = i.usb4; domain = i.domain; route = i.route; depth = i.depth }
 
-unfoldable pub device_outcome : DeviceAnswer → Outcome Info
-device_outcome (device-answer.Device i) = value (info_in i)
-device_outcome (device-answer.Refused r) = refused_by r
-
-unfoldable pub upstream_outcome : UpstreamAnswer → Outcome (Option ℕ)
-upstream_outcome (upstream-answer.Adapter a) = value (some a)
-upstream_outcome upstream-answer.None = value none
-upstream_outcome (upstream-answer.Refused r) = refused_by r
+unfoldable pub device_outcome : Result DeviceInfo Refusal → Outcome Info
+device_outcome (Ok i) = value (info_in i)
+device_outcome (Err r) = refused_by r

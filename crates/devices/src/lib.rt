@@ -2,13 +2,13 @@
 #![tactic(auto)]
 
 ghost use Rattle.std.specs.Prelude.{◌≡◌};
-ghost use Rattle.devices.specs.Calls.{device_answer, upstream_answer, device_outcome, upstream_outcome};
+ghost use Rattle.devices.specs.Calls.{device_answer, upstream_answer, device_outcome};
 ghost use Rattle.devices.specs.Work.{read_device, read_outcome};
+ghost use Rattle.refusal.specs.Refusal.{outcome};
 
 use adapter::Facts;
-use load::{LoadAnswer, Refusal};
-use refusal::{Fault, Site};
-use tables::{DeviceFacts, DeviceFound, Upstream};
+use refusal::{Fault, FieldError, Refusal, Site};
+use tables::DeviceFacts;
 use usb4::Kind;
 
 // What is said of a device.
@@ -21,91 +21,52 @@ pub struct DeviceInfo {
     pub depth: u32,
 }
 
+// The adapter that is asked for, and its device.
 #[derive(Clone, Copy)]
-pub enum DeviceAnswer {
-    Device(DeviceInfo),
-    Refused(Refusal),
-}
-
-#[derive(Clone, Copy)]
-pub enum UpstreamAnswer {
-    Adapter(u8),
-    None,
-    Refused(Refusal),
-}
-
-// The device that is asked for, or what refuses it.
-#[derive(Clone, Copy)]
-pub enum DeviceRead {
-    Device(DeviceFacts),
-    Refused(Refusal),
-}
-
-// The adapter that is asked for and its device, or what refuses them.
-#[derive(Clone, Copy)]
-pub enum PairRead {
-    Pair(DeviceFacts, Facts),
-    Refused(Refusal),
+pub struct Pair {
+    pub device: DeviceFacts,
+    pub adapter: Facts,
 }
 
 // The device at a place: 3, 4, loading, 14.
-fn read_device(descriptions: &[u32], survey: &[u32], place: usize) -> DeviceRead
+fn read_device(descriptions: &[u32], survey: &[u32], place: usize) -> Result<DeviceFacts, Refusal>
     ensures { read_outcome place result ≡ read_device descriptions.now survey.now place }
 {
     let loaded = load::load(descriptions, survey);
     let answer = loaded.answer;
-    match answer {
-        LoadAnswer::Refused(refusal) => DeviceRead::Refused(refusal),
-        LoadAnswer::Tables {
-            entries: _,
-            adapters: _,
-            devices,
-        } => {
-            let routes = loaded.routes;
-            let marks = loaded.marks;
-            match routers::find_device(&routes[..devices], &marks[..devices], place) {
-                DeviceFound::Nowhere => DeviceRead::Refused(Refusal::Missing),
-                DeviceFound::Device(d) => DeviceRead::Device(d),
-            }
-        }
-    }
+    let counts = answer?;
+    let devices = counts.devices;
+    let routes = loaded.routes;
+    let marks = loaded.marks;
+    routers::find_device(&routes[..devices], &marks[..devices], place).ok_or(Refusal::Missing)
 }
 
 // Kind, USB4, domain, route and depth.
-pub fn device(descriptions: &[u32], survey: &[u32], place: usize) -> DeviceAnswer
+pub fn device(descriptions: &[u32], survey: &[u32], place: usize) -> Result<DeviceInfo, Refusal>
     ensures { device_outcome result ≡ device_answer descriptions.now survey.now place }
 {
-    match read_device(descriptions, survey, place) {
-        DeviceRead::Refused(refusal) => DeviceAnswer::Refused(refusal),
-        DeviceRead::Device(d) => {
-            let kind = d.kind;
-            DeviceAnswer::Device(DeviceInfo {
-                kind,
-                usb4: d.usb4,
-                domain: d.domain,
-                route: d.route,
-                depth: route::depth(d.route),
-            })
-        }
-    }
+    let d = read_device(descriptions, survey, place)?;
+    Ok(DeviceInfo {
+        kind: d.kind,
+        usb4: d.usb4,
+        domain: d.domain,
+        route: d.route,
+        depth: route::depth(d.route),
+    })
 }
 
 // The upstream adapter's number, none, or 6.
-pub fn upstream_adapter(descriptions: &[u32], survey: &[u32], place: usize) -> UpstreamAnswer
-    ensures { upstream_outcome result ≡ upstream_answer descriptions.now survey.now place }
+pub fn upstream_adapter(
+    descriptions: &[u32],
+    survey: &[u32],
+    place: usize,
+) -> Result<Option<u8>, Refusal>
+    ensures { outcome result ≡ upstream_answer descriptions.now survey.now place }
 {
-    match read_device(descriptions, survey, place) {
-        DeviceRead::Refused(refusal) => UpstreamAnswer::Refused(refusal),
-        DeviceRead::Device(d) => {
-            let upstream = d.upstream;
-            match upstream {
-                Upstream::Adapter(a) => UpstreamAnswer::Adapter(a),
-                Upstream::None => UpstreamAnswer::None,
-                Upstream::NoField => UpstreamAnswer::Refused(Refusal::Fault(Fault::NoField(Site {
-                    place,
-                    adapter: 0,
-                }))),
-            }
-        }
+    let d = read_device(descriptions, survey, place)?;
+    let upstream = d.upstream;
+    match upstream {
+        Ok(adapter) => Ok(adapter),
+        Err(FieldError::NoField) => Err(Refusal::Fault(Fault::NoField(Site { place, adapter: 0 }))),
     }
 }

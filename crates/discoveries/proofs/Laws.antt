@@ -1,23 +1,21 @@
 -- Laws on the call for the tunnels of an adapter. Assumes nothing.
+use Rattle.std.specs.Prelude.{Err, Result, Option}
 use Prim.Native.Nat.{ℕ}
 use mathlib.Core.Path.{◌≡◌, refl, sym, ap, ◌∙◌}
 use mathlib.Core.List.{List}
-use mathlib.Core.Option.{Option}
 use lib.ListN.{length}
 use Rattle.refusal.specs.Outcome.{Outcome, refused, value, bind}
 use Rattle.tables.specs.Rows.{Rows}
 use Rattle.load.specs.Loading.{loaded}
-use Rattle.load.specs.Answers.{refused_by}
-use Rattle.load.specs.declared.Refusal.{Refusal}
-use Rattle.load.proofs.Result.{refused_bind}
+use Rattle.refusal.specs.Refusal.{refused_by}
+use Rattle.refusal.specs.declared.Refusal.{Refusal}
+use Rattle.refusal.proofs.Laws.{refused_bind}
 use Rattle.walk.specs.Tables.{rows_of, Tabled}
 use Rattle.path.specs.Put.{Sized}
 use Rattle.walks.proofs.Laws.{nothing, refused_value}
 use Rattle.tunnel.specs.Tunnels.{Tunnel}
-use Rattle.discovery.specs.Answers.{discover_at, in_room, output_by, tunnels_outcome}
+use Rattle.discovery.specs.Answers.{discover_at, in_room, output_by}
 use Rattle.discovery.specs.Tables.{Discovered}
-use Rattle.discovery.specs.declared.TunnelsAnswer.{TunnelsAnswer}
-use Rattle.discovery.specs.declared.TunnelsAnswer.TheVariants as answer
 use Rattle.discoveries.specs.Calls.{discover_answer, DiscoverDone}
 
 -- nothing is written of what is refused
@@ -28,8 +26,7 @@ kept_by old (value o) e = absurd (refused_value e)
 
 module _ (t v : List ℕ) (p a : ℕ) (out : List ℕ) where
   -- loading is refused
-  pub turned_away : (r : Refusal) → refused_by r ≡ discover_answer t v p a → DiscoverDone t v p a out (answer.Refused r) out
-  unfolding tunnels_outcome
+  pub turned_away : (r : Refusal) → refused_by r ≡ discover_answer t v p a → DiscoverDone t v p a out (Err r) out
   turned_away r e = record {
     answers = sym (refused_bind r (in_room (length out))) ∙ ap (λ (o : Outcome (Option (List Tunnel))). bind o (in_room (length out))) e;
     writes = kept_by out (discover_answer t v p a) (sym (ap (λ (o : Outcome (Option (List Tunnel))). bind o nothing) e) ∙ refused_bind r nothing ∙ e);
@@ -37,7 +34,7 @@ module _ (t v : List ℕ) (p a : ℕ) (out : List ℕ) where
   }
 
   -- the survey is loaded
-  pub done : (en ad ro ma : List ℕ) → loaded t v ≡ value (rows_of en ad ro ma) → Sized en ro → Tabled en ad ro → (r : TunnelsAnswer) (out' : List ℕ) → Discovered en ad ro ma p a out r out' → DiscoverDone t v p a out r out'
+  pub done : (en ad ro ma : List ℕ) → loaded t v ≡ value (rows_of en ad ro ma) → Sized en ro → Tabled en ad ro → (r : Result (Option ℕ) Refusal) (out' : List ℕ) → Discovered en ad ro ma p a out r out' → DiscoverDone t v p a out r out'
   unfolding discover_answer bind
   done en ad ro ma l z k r out' w = record {
     answers = w.answers z k ∙ sym (ap (λ (o : Outcome Rows). bind (bind o (λ x. discover_at x p a)) (in_room (length out))) l);

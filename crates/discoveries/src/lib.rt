@@ -3,8 +3,7 @@
 
 ghost use Rattle.discoveries.specs.Calls.{DiscoverDone};
 
-use discovery::TunnelsAnswer;
-use load::LoadAnswer;
+use refusal::Refusal;
 
 // The tunnels from an adapter of the device at a place, as result words.
 pub fn discover(
@@ -13,31 +12,23 @@ pub fn discover(
     place: usize,
     adapter: u8,
     output: &mut [u32],
-) -> TunnelsAnswer
+) -> Result<Option<usize>, Refusal>
     ensures { DiscoverDone descriptions.now survey.now place adapter output.old result output.new }
 {
     let loaded = load::load(descriptions, survey);
     let answer = loaded.answer;
-    match answer {
-        LoadAnswer::Refused(refusal) => TunnelsAnswer::Refused(refusal),
-        LoadAnswer::Tables {
-            entries,
-            adapters,
-            devices,
-        } => {
-            let routes = loaded.routes;
-            let marks = loaded.marks;
-            let table = loaded.adapters;
-            let paths = loaded.entries;
-            discovery::discover_in(
-                &paths[..entries],
-                &table[..adapters],
-                &routes[..devices],
-                &marks[..devices],
-                place,
-                adapter,
-                output,
-            )
-        }
-    }
+    let counts = answer?;
+    let routes = loaded.routes;
+    let marks = loaded.marks;
+    let table = loaded.adapters;
+    let paths = loaded.entries;
+    discovery::discover_in(
+        &paths[..counts.entries],
+        &table[..counts.adapters],
+        &routes[..counts.devices],
+        &marks[..counts.devices],
+        place,
+        adapter,
+        output,
+    )
 }

@@ -1,9 +1,10 @@
 -- Laws of what is answered and written of what is discovered. Assumes nothing.
+use Rattle.std.specs.Option.{option_to_list}
 use Prim.Native.Nat.{ℕ, ◌+◌, ◌-◌, ◌≤◌, ◌<◌}
 use mathlib.Core.Path.{◌≡◌, refl, sym, ap, ◌∙◌, subst}
 use mathlib.Core.Bool.{Bool, true, false, cond, ◌&&◌, ◌||◌, true≢false}
-use mathlib.Core.List.{List, [], ◌∷◌, ◌++◌, append-nil, Option-to_list}
-use mathlib.Core.Option.{Option, none, some}
+use mathlib.Core.List.{List, [], ◌∷◌, ◌++◌, append-nil}
+use Rattle.std.specs.Prelude.{Option, None, Some, Err, Ok, Result}
 use native.Mathlib.Omega.{arith}
 use native.Mathlib.Decide.{dec_lt}
 use lib.Dec.{ltb, eqb}
@@ -21,80 +22,70 @@ use Rattle.usb4.specs.declared.TunnelType.TheVariants as tunnel_type
 use Rattle.state.specs.State.{is_protocol, is_enabled}
 use Rattle.adapter.specs.Adapter.{AdapterRow, min_hop, adapter_site, facts_row, max_hop_outcome}
 use Rattle.adapter.specs.declared.Facts.{Facts}
-use Rattle.adapter.specs.declared.MaxHop.{MaxHop}
-use Rattle.adapter.specs.declared.MaxHop.TheVariants as most
 use Rattle.tables.specs.Rows.{Rows, adapter_in, device_in}
 use Rattle.tables.specs.Packed.{type_by, adapters_in, devices_in}
 use Rattle.tables.specs.Found.{device_found, adapter_found, AdapterSought}
-use Rattle.tables.specs.declared.AdapterFound.{AdapterFound}
-use Rattle.tables.specs.declared.AdapterFound.TheVariants as adapter
 use Rattle.tables.specs.declared.DeviceFacts.{DeviceFacts}
-use Rattle.tables.specs.declared.DeviceFound.{DeviceFound}
-use Rattle.tables.specs.declared.DeviceFound.TheVariants as device
 use Rattle.tables.proofs.Laws.{type_round, device_past_routes}
-use Rattle.load.specs.Answers.{refused_by, present, asked_device, asked_adapter}
-use Rattle.load.specs.declared.Refusal.{Refusal}
-use Rattle.load.specs.declared.Refusal.TheVariants as refusal
+use Rattle.load.specs.Answers.{present, asked_device, asked_adapter}
+use Rattle.refusal.specs.Refusal.{refused_by}
+use Rattle.refusal.specs.declared.Refusal.{Refusal}
+use Rattle.refusal.specs.declared.Refusal.TheVariants as refusal
 use Rattle.fabric.specs.Tables.{rows_with}
 use Rattle.walk.specs.Tables.{rows_of, Tabled}
 use Rattle.path.specs.Put.{Sized}
 use Rattle.tunnel.specs.Tunnels.{Tunnel, down_and_up, display_port, rings, or_none, dma, alone, of_kind, discover}
 use Rattle.tunnel.specs.Words.{tunnels_words}
-use Rattle.tunnel.specs.Plans.{plan_if, planned_outcome, words_by, paths_by, Plans}
-use Rattle.tunnel.specs.declared.Planned.{Planned}
-use Rattle.tunnel.specs.declared.Planned.TheVariants as planned
-use Rattle.discovery.specs.Answers.{discover_at, in_room, output_by, tunnels_outcome, is_list}
+use Rattle.tunnel.specs.Plans.{plan_if, planned_as, planned_outcome, words_by, paths_by, Plans}
+use Rattle.tunnel.specs.declared.Plan.{Plan as Planned}
+use Rattle.discovery.specs.Answers.{discover_at, in_room, output_by, is_list}
 use Rattle.discovery.specs.Tables.{Discovered}
 use Rattle.discovery.specs.Work.{Wrote, Walks, PlanPut, tally_of, tallied, Tallies, RingsPut, Follows, Free, OneAnswered, Answered, ring_list, dma_by, tunnel_by, rings_end}
-use Rattle.discovery.specs.declared.TunnelsAnswer.{TunnelsAnswer}
-use Rattle.discovery.specs.declared.TunnelsAnswer.TheVariants as answer
-use Rattle.discovery.specs.declared.Tally.{Tally}
-use Rattle.discovery.specs.declared.Tally.TheVariants as tally
 use Rattle.discovery.proofs.Walks.{down_and_up_walks, display_port_walks}
-use Rattle.load.proofs.Result.{refused_bind}
+use Rattle.refusal.proofs.Laws.{refused_bind}
 use Rattle.path.proofs.Writing.{refused_as_lem}
 use Rattle.discovery.proofs.Past.{rings_capped}
 use Rattle.discovery.proofs.Rings.{plan_words, plan_refused}
+use Rattle.refusal.specs.declared.FieldError.{FieldError}
+use Rattle.refusal.specs.declared.FieldError.TheVariants as field
 
 -- ---- by what is discovered
 
 module _ (o : Outcome (Option (List Tunnel))) (out : List ℕ) where
-  module _ (ts : List Tunnel) (w : ℕ) (e : o ≡ value (some ts)) (n : w ≡ length (tunnels_words ts)) where
-    by_room : (b : Bool) → ltb (length out) (length (tunnels_words ts)) ≡ b → bind o (in_room (length out)) ≡ cond b (refused 2 (w ∷ [])) (value (some w))
+  module _ (ts : List Tunnel) (w : ℕ) (e : o ≡ value (Some ts)) (n : w ≡ length (tunnels_words ts)) where
+    by_room : (b : Bool) → ltb (length out) (length (tunnels_words ts)) ≡ b → bind o (in_room (length out)) ≡ cond b (refused 2 (w ∷ [])) (value (Some w))
     unfolding bind in_room
-    by_room b q = ap (λ y. bind y (in_room (length out))) e ∙ ap (λ y. cond y (refused 2 (length (tunnels_words ts) ∷ [])) (value (some (length (tunnels_words ts))))) q ∙ ap (λ y. cond b (refused 2 (y ∷ [])) (value (some y))) (sym n)
+    by_room b q = ap (λ y. bind y (in_room (length out))) e ∙ ap (λ y. cond y (refused 2 (length (tunnels_words ts) ∷ [])) (value (Some (length (tunnels_words ts))))) q ∙ ap (λ y. cond b (refused 2 (y ∷ [])) (value (Some y))) (sym n)
 
     by_words : (b : Bool) → ltb (length out) (length (tunnels_words ts)) ≡ b → output_by o out ≡ cond b out (tunnels_words ts ++ drop w out)
     unfolding output_by
     by_words b q = ap (λ y. output_by y out) e ∙ ap (λ y. cond y out (tunnels_words ts ++ drop (length (tunnels_words ts)) out)) q ∙ ap (λ y. cond b out (tunnels_words ts ++ drop y out)) (sym n)
 
-    pub follows_words : w ≤ length out → (S : List ℕ) → S ≡ tunnels_words ts → Follows o out (answer.Words w) (S ++ drop w out)
-    unfolding tunnels_outcome
+    pub follows_words : w ≤ length out → (S : List ℕ) → S ≡ tunnels_words ts → Follows o out (Ok (Some w)) (S ++ drop w out)
     follows_words l S q =
         let b = le-ltb (length out) (length (tunnels_words ts)) (omega arith) in
         record { answers = sym (by_room false b); writes = ap (λ y. y ++ drop w out) q ∙ sym (by_words false b) }
 
-    pub follows_short : length out < w → Follows o out (answer.Short w) out
-    unfolding tunnels_outcome
+    pub follows_short : length out < w → Follows o out (Err (refusal.Short w)) out
     follows_short l =
         let b = lt-ltb (length out) (length (tunnels_words ts)) (omega arith) in
         record { answers = sym (by_room true b); writes = sym (by_words true b) }
 
-  pub follows_none : o ≡ value none → Follows o out answer.Absent out
-  unfolding tunnels_outcome bind in_room output_by
+  pub follows_none : o ≡ value None → Follows o out (Ok None) out
+  unfolding bind in_room output_by
   follows_none e = record { answers = sym (ap (λ y. bind y (in_room (length out))) e); writes = sym (ap (λ y. output_by y out) e) }
 
-  pub follows_refused : (r : Refusal) (k : ℕ) (vs : List ℕ) → o ≡ refused k vs → ((A : Type 0) → refused_by {A = A} r ≡ refused k vs) → Follows o out (answer.Refused r) out
-  unfolding tunnels_outcome bind output_by
+  pub follows_refused : (r : Refusal) (k : ℕ) (vs : List ℕ) → o ≡ refused k vs → ((A : Type 0) → refused_by {A = A} r ≡ refused k vs) → Follows o out (Err r) out
+  unfolding bind output_by
   follows_refused r k vs e f = record { answers = f (Option ℕ) ∙ sym (ap (λ y. bind y (in_room (length out))) e); writes = sym (ap (λ y. output_by y out) e) }
 
 -- ---- on any tables
 
-pub free_kept : (out : List ℕ) (r : TunnelsAnswer) → is_list r ≡ false → Free out r out
+pub free_kept : (out : List ℕ) (r : Result (Option ℕ) Refusal) → is_list r ≡ false → Free out r out
 unfolding is_list
 free_kept out r b = record { kept = λ q. refl; fits = λ n e. absurd (true≢false (sym (ap is_list e) ∙ b)); tail = λ n e. refl; long = refl }
 
-pub free_words : (out S : List ℕ) (w : ℕ) → w ≤ length out → length S ≡ length (take w out) → Free out (answer.Words w) (S ++ drop w out)
+pub free_words : (out S : List ℕ) (w : ℕ) → w ≤ length out → length S ≡ length (take w out) → Free out (Ok (Some w)) (S ++ drop w out)
 unfolding is_list
 free_words out S w l n = record {
   kept = λ q. absurd (true≢false q);
@@ -104,63 +95,62 @@ free_words out S w l n = record {
 }
 
 -- what is discovered, by another definition
-answered_as : (en ad ro ma : List ℕ) (p : ℕ) (f g : Rows → Outcome (Option (List Tunnel))) (out : List ℕ) (r : TunnelsAnswer) (out' : List ℕ) → (Sized en ro → f (rows_of en ad ro ma) ≡ g (rows_of en ad ro ma)) → Answered en ad ro ma p g out r out' → Answered en ad ro ma p f out r out'
+answered_as : (en ad ro ma : List ℕ) (p : ℕ) (f g : Rows → Outcome (Option (List Tunnel))) (out : List ℕ) (r : Result (Option ℕ) Refusal) (out' : List ℕ) → (Sized en ro → f (rows_of en ad ro ma) ≡ g (rows_of en ad ro ma)) → Answered en ad ro ma p g out r out' → Answered en ad ro ma p f out r out'
 answered_as en ad ro ma p f g out r out' e w = record { follows = λ z t l. subst (λ o. Follows o out r out') (sym (e z)) (w.follows z t l); free = w.free }
 
 -- ---- one tunnel
 
-module _ (en ad ro ma : List ℕ) (plan : Planned) (out : List ℕ) where
-  pub one_refused : (r : Refusal) → plan ≡ planned.Refused r → OneAnswered en ad ro ma plan out (answer.Refused r) out
-  unfolding is_list tally_of bind
-  one_refused r e = record {
-    follows = λ z t o f w. let y = plan_refused plan o f r (ap tally_of e) in follows_refused (bind o alone) out r y.0 y.1 (ap (λ q. bind q alone) y.2) y.3;
-    free = free_kept out (answer.Refused r) refl;
-  }
+pub one_refused : (en ad ro ma : List ℕ) (out : List ℕ) (r : Refusal) → OneAnswered en ad ro ma (Err r) out (Err r) out
+unfolding is_list bind
+one_refused en ad ro ma out r = record {
+  follows = λ z t o f w. let y = plan_refused r o f in follows_refused (bind o alone) out r y.0 y.1 (ap (λ q. bind q alone) y.2) y.3;
+  free = free_kept out (Err r) refl;
+}
 
-  pub one_absent : plan ≡ planned.Absent → OneAnswered en ad ro ma plan out answer.Absent out
+module _ (en ad ro ma : List ℕ) (plan : Option Planned) (out : List ℕ) where
+  pub one_absent : plan ≡ None → OneAnswered en ad ro ma (Ok plan) out (Ok None) out
   unfolding is_list planned_outcome bind plan_if alone
-  one_absent e = record { follows = λ z t o f w. follows_none (bind o alone) out (go o (sym (ap planned_outcome e) ∙ f)); free = free_kept out answer.Absent refl }
+  one_absent e = record { follows = λ z t o f w. follows_none (bind o alone) out (go o (sym (ap (λ q. planned_outcome (Ok q)) e) ∙ f)); free = free_kept out (Ok None) refl }
     where
-      go : (o : Outcome (Option Tunnel)) → value none ≡ bind o (λ t. value (plan_if t)) → bind o alone ≡ value none
+      go : (o : Outcome (Option Tunnel)) → value None ≡ bind o (λ t. value (plan_if t)) → bind o alone ≡ value None
       go (refused k vs) f = absurd (let z : ◌≡◌ {A = ℕ} 0 1 = cc in omega arith)
-      go (value none) f = refl
-      go (value (some t)) f = absurd (let z : ◌≡◌ {A = ℕ} 0 1 = cc in omega arith)
+      go (value None) f = refl
+      go (value (Some t)) f = absurd (let z : ◌≡◌ {A = ℕ} 0 1 = cc in omega arith)
 
   -- a tunnel that is planned is a list of one
-  module _ (w : ℕ) (e : tally_of plan ≡ tally.Words w) (some-planned : planned_outcome plan ≡ value none → ⊥) (o : Outcome (Option Tunnel)) (f : planned_outcome plan ≡ bind o (λ t. value (plan_if t))) where
-    pub one_planned : (t : Tunnel) × (o ≡ value (some t)) × (bind o alone ≡ value (some (t ∷ []))) × (w ≡ length (tunnels_words (t ∷ []))) × (planned_outcome plan ≡ value (plan_if (some t)))
-    unfolding bind alone plan_if Option-to_list
+  module _ (w : ℕ) (e : tally_of plan ≡ w) (some-planned : planned_outcome (Ok plan) ≡ value None → ⊥) (o : Outcome (Option Tunnel)) (f : planned_outcome (Ok plan) ≡ bind o (λ t. value (plan_if t))) where
+    pub one_planned : (t : Tunnel) × (o ≡ value (Some t)) × (bind o alone ≡ value (Some (t ∷ []))) × (w ≡ length (tunnels_words (t ∷ []))) × (planned_outcome (Ok plan) ≡ value (plan_if (Some t)))
+    unfolding bind alone plan_if
     one_planned = go (plan_words plan o f w e)
       where
-        go : (t : Option Tunnel) × (o ≡ value t) × (w ≡ length (tunnels_words (Option-to_list t))) × (planned_outcome plan ≡ value (plan_if t)) → (t : Tunnel) × (o ≡ value (some t)) × (bind o alone ≡ value (some (t ∷ []))) × (w ≡ length (tunnels_words (t ∷ []))) × (planned_outcome plan ≡ value (plan_if (some t)))
-        go (none, q, n, g) = absurd (some-planned g)
-        go (some t, q, n, g) = (t, q, ap (λ y. bind y alone) q, n, g)
+        go : (t : Option Tunnel) × (o ≡ value t) × (w ≡ length (tunnels_words (option_to_list t))) × (planned_outcome (Ok plan) ≡ value (plan_if t)) → (t : Tunnel) × (o ≡ value (Some t)) × (bind o alone ≡ value (Some (t ∷ []))) × (w ≡ length (tunnels_words (t ∷ []))) × (planned_outcome (Ok plan) ≡ value (plan_if (Some t)))
+        go (None, q, n, g) = absurd (some-planned g)
+        go (Some t, q, n, g) = (t, q, ap (λ y. bind y alone) q, n, g)
 
-  module _ (k : _) (c : Bool) (w n : ℕ) (a b d : _) (e : plan ≡ planned.Tunnel k c w n a b d) where
-    tunnel_planned : planned_outcome plan ≡ value none → ⊥
+  module _ (k : _) (c : Bool) (w n : ℕ) (a b d : _) (e : plan ≡ Some (planned_as k c w n a b d)) where
+    tunnel_planned : planned_outcome (Ok plan) ≡ value None → ⊥
     unfolding planned_outcome
-    tunnel_planned f = let z = sym (ap planned_outcome e) ∙ f in let y : ◌≡◌ {A = ℕ} 0 1 = cc in omega arith
+    tunnel_planned f = let z = sym (ap (λ q. planned_outcome (Ok q)) e) ∙ f in let y : ◌≡◌ {A = ℕ} 0 1 = cc in omega arith
 
-    tunnel_words_lem : tally_of plan ≡ tally.Words w
+    tunnel_words_lem : tally_of plan ≡ w
     unfolding tally_of
     tunnel_words_lem = ap tally_of e
 
-    pub one_short : length out < w → OneAnswered en ad ro ma plan out (answer.Short w) out
+    pub one_short : length out < w → OneAnswered en ad ro ma (Ok plan) out (Err (refusal.Short w)) out
     unfolding is_list
     one_short l = record {
       follows = λ z t o f q. let y = one_planned w tunnel_words_lem tunnel_planned o f in follows_short (bind o alone) out (y.0 ∷ []) w y.2 y.3 l;
-      free = free_kept out (answer.Short w) refl;
+      free = free_kept out (Err (refusal.Short w)) refl;
     }
 
-    pub one_put : (S : List ℕ) (r : ℕ) → w ≤ length out → length S ≡ length (take w out) → PlanPut en ad ro ma (planned.Tunnel k c w n a b d) 0 (take w out) r S → OneAnswered en ad ro ma plan out (answer.Words w) (S ++ drop w out)
-    unfolding Option-to_list
+    pub one_put : (S : List ℕ) (r : ℕ) → w ≤ length out → length S ≡ length (take w out) → PlanPut en ad ro ma (Ok (Some (planned_as k c w n a b d))) 0 (take w out) r S → OneAnswered en ad ro ma (Ok plan) out (Ok (Some w)) (S ++ drop w out)
     one_put S r l m p = record {
-      follows = λ z t o f q. let y = one_planned w tunnel_words_lem tunnel_planned o f in follows_words (bind o alone) out (y.0 ∷ []) w y.2 y.3 l S (whole z t y.0 y.3 y.4 (q (some y.0) y.1));
+      follows = λ z t o f q. let y = one_planned w tunnel_words_lem tunnel_planned o f in follows_words (bind o alone) out (y.0 ∷ []) w y.2 y.3 l S (whole z t y.0 y.3 y.4 (q (Some y.0) y.1));
       free = free_words out S w l m;
     }
       where
-        whole : Sized en ro → Tabled en ad ro → (t : Tunnel) → w ≡ length (tunnels_words (t ∷ [])) → planned_outcome plan ≡ value (plan_if (some t)) → Walks (rows_of en ad ro ma) (some t) → S ≡ tunnels_words (t ∷ [])
-        whole z g t j f q = all (p.words z g (some t) (sym (ap planned_outcome e) ∙ f) q (omega (arith, j, length-take-le w out l)))
+        whole : Sized en ro → Tabled en ad ro → (t : Tunnel) → w ≡ length (tunnels_words (t ∷ [])) → planned_outcome (Ok plan) ≡ value (plan_if (Some t)) → Walks (rows_of en ad ro ma) (Some t) → S ≡ tunnels_words (t ∷ [])
+        whole z g t j f q = all (p.words z g (Some t) (sym (ap (λ q. planned_outcome (Ok q)) e) ∙ f) q (omega (arith, j, length-take-le w out l)))
           where
             all : Wrote 0 (tunnels_words (t ∷ [])) (take w out) r S → S ≡ tunnels_words (t ∷ [])
             all v = v.whole ∙ ap (λ y. tunnels_words (t ∷ []) ++ y) (drop_of_length-le (take w out) {i = r} (omega (arith, j, v.next, length-take-le w out l))) ∙ append-nil (tunnels_words (t ∷ []))
@@ -178,57 +168,57 @@ counted_refused (refused k vs) r e = (k, vs, refl, λ A. sym (refused_bind r (λ
 counted_refused (value ts) r e = absurd (let w = refused_as_lem (value (length (tunnels_words ts))) r e in let v = w.2 in let z : ◌≡◌ {A = ℕ} 0 1 = cc in omega arith)
 
 module _ (en ad ro ma : List ℕ) (p a : ℕ) (out : List ℕ) where
-  abbrev Rung : MaxHop → TunnelsAnswer → List ℕ → Type 0
+  abbrev Rung : Result (Option ℕ) FieldError → Result (Option ℕ) Refusal → List ℕ → Type 0
   Rung m r out' = Answered en ad ro ma p (λ x. dma_by x p a (max_hop_outcome (adapter_site p a) m)) out r out'
 
-  pub dma_absent : (m : MaxHop) → m ≡ most.None → Rung m answer.Absent out
+  pub dma_absent : (m : Result (Option ℕ) FieldError) → m ≡ (Ok None) → Rung m (Ok None) out
   unfolding is_list max_hop_outcome dma_by bind or_none
   dma_absent m e = record {
     follows = λ z t l. follows_none (dma_by (rows_of en ad ro ma) p a (max_hop_outcome (adapter_site p a) m)) out (ap (λ q. dma_by (rows_of en ad ro ma) p a (max_hop_outcome (adapter_site p a) q)) e);
-    free = free_kept out answer.Absent refl;
+    free = free_kept out (Ok None) refl;
   }
 
-  pub dma_unread : (m : MaxHop) → m ≡ most.NoField → Rung m (answer.Refused (refusal.Fault (NoField (adapter_site p a)))) out
-  unfolding is_list max_hop_outcome dma_by bind refused_by refusal_of
+  pub dma_unread : (m : Result (Option ℕ) FieldError) → m ≡ (Err field.NoField) → Rung m (Err (refusal.Fault (NoField (adapter_site p a)))) out
+  unfolding is_list max_hop_outcome dma_by bind refusal_of
   dma_unread m e = record {
     follows = λ z t l. follows_refused (dma_by (rows_of en ad ro ma) p a (max_hop_outcome (adapter_site p a) m)) out (refusal.Fault (NoField (adapter_site p a))) 6 (site-at (adapter_site p a)) (ap (λ q. dma_by (rows_of en ad ro ma) p a (max_hop_outcome (adapter_site p a) q)) e) (λ A. refl);
     free = free_kept out _ refl;
   }
 
   -- those past 65,535 have no tunnel
-  pub dma_rings : (m : MaxHop) (hi end : ℕ) → m ≡ most.Hop hi → end ≡ rings_end hi → (r : TunnelsAnswer) (out' : List ℕ) → Answered en ad ro ma p (λ x. ring_list x p a (end - 1)) out r out' → Rung m r out'
+  pub dma_rings : (m : Result (Option ℕ) FieldError) (hi end : ℕ) → m ≡ Ok (Some hi) → end ≡ rings_end hi → (r : Result (Option ℕ) Refusal) (out' : List ℕ) → Answered en ad ro ma p (λ x. ring_list x p a (end - 1)) out r out' → Rung m r out'
   unfolding max_hop_outcome dma_by bind or_none
   dma_rings m hi end e is r out' w = answered_as en ad ro ma p _ _ out r out'
       (λ z.
       ap (λ y. dma_by (rows_of en ad ro ma) p a (max_hop_outcome (adapter_site p a) y)) e
-      ∙ ap (λ y. bind y (λ ts. value (some ts))) (rings_capped en ad ro ma p a hi z ∙ ap (λ y. rings (rows_of en ad ro ma) p a 1 (y - 1)) (sym is)))
+      ∙ ap (λ y. bind y (λ ts. value (Some ts))) (rings_capped en ad ro ma p a hi z ∙ ap (λ y. rings (rows_of en ad ro ma) p a 1 (y - 1)) (sym is)))
       w
 
 module _ (en ad ro ma : List ℕ) (p a : ℕ) (out : List ℕ) (k : ℕ) where
-  abbrev Listed : TunnelsAnswer → List ℕ → Type 0
+  abbrev Listed : Result (Option ℕ) Refusal → List ℕ → Type 0
   Listed r out' = Answered en ad ro ma p (λ x. ring_list x p a k) out r out'
 
-  module _ (c : Tally) (f : Tallies en ad ro ma p a k c) where
-    pub list_refused : (r : Refusal) → c ≡ tally.Refused r → Listed (answer.Refused r) out
+  module _ (c : Result ℕ Refusal) (f : Tallies en ad ro ma p a k c) where
+    pub list_refused : (r : Refusal) → c ≡ Err r → Listed (Err r) out
     unfolding is_list tallied bind
     list_refused r d = record {
-      follows = λ z t l. let y = counted_refused (rings (rows_of en ad ro ma) p a 1 k) r (sym (ap tallied d) ∙ f.counts z t l) in follows_refused (ring_list (rows_of en ad ro ma) p a k) out r y.0 y.1 (ap (λ o. bind o (λ ts. value (some ts))) y.2) y.3;
-      free = free_kept out (answer.Refused r) refl;
+      follows = λ z t l. let y = counted_refused (rings (rows_of en ad ro ma) p a 1 k) r (sym (ap tallied d) ∙ f.counts z t l) in follows_refused (ring_list (rows_of en ad ro ma) p a k) out r y.0 y.1 (ap (λ o. bind o (λ ts. value (Some ts))) y.2) y.3;
+      free = free_kept out (Err r) refl;
     }
 
-    module _ (w : ℕ) (d : c ≡ tally.Words w) where
-      all_rings : Sized en ro → Tabled en ad ro → p < 65536 → (ts : List Tunnel) × (rings (rows_of en ad ro ma) p a 1 k ≡ value ts) × (w ≡ length (tunnels_words ts)) × (ring_list (rows_of en ad ro ma) p a k ≡ value (some ts))
+    module _ (w : ℕ) (d : c ≡ Ok w) where
+      all_rings : Sized en ro → Tabled en ad ro → p < 65536 → (ts : List Tunnel) × (rings (rows_of en ad ro ma) p a 1 k ≡ value ts) × (w ≡ length (tunnels_words ts)) × (ring_list (rows_of en ad ro ma) p a k ≡ value (Some ts))
       unfolding tallied bind
-      all_rings z t l = let y = counted_words (rings (rows_of en ad ro ma) p a 1 k) w (sym (ap tallied d) ∙ f.counts z t l) in (y.0, y.1, y.2, ap (λ o. bind o (λ ts. value (some ts))) y.1)
+      all_rings z t l = let y = counted_words (rings (rows_of en ad ro ma) p a 1 k) w (sym (ap tallied d) ∙ f.counts z t l) in (y.0, y.1, y.2, ap (λ o. bind o (λ ts. value (Some ts))) y.1)
 
-      pub list_short : length out < w → Listed (answer.Short w) out
+      pub list_short : length out < w → Listed (Err (refusal.Short w)) out
       unfolding is_list
       list_short n = record {
         follows = λ z t l. let y = all_rings z t l in follows_short (ring_list (rows_of en ad ro ma) p a k) out y.0 w y.3 y.2 n;
-        free = free_kept out (answer.Short w) refl;
+        free = free_kept out (Err (refusal.Short w)) refl;
       }
 
-      pub list_put : w ≤ length out → (S : List ℕ) → length S ≡ length (take w out) → RingsPut en ad ro ma p a k (take w out) S → Listed (answer.Words w) (S ++ drop w out)
+      pub list_put : w ≤ length out → (S : List ℕ) → length S ≡ length (take w out) → RingsPut en ad ro ma p a k (take w out) S → Listed (Ok (Some w)) (S ++ drop w out)
       list_put n S e v = record {
         follows = λ z t l. let y = all_rings z t l in follows_words (ring_list (rows_of en ad ro ma) p a k) out y.0 w y.3 y.2 n S (v.words z t l y.0 y.1 (length-take-le w out n ∙ y.2));
         free = free_words out S w n e;
@@ -248,65 +238,65 @@ unfolding is_enabled
 not_enabled k st f g = ap (λ b. b || (is_protocol k && eqb (state_number st) 2)) (ne_eqb (type_number k) 3 f) ∙ ap (λ b. is_protocol k && b) (ne_eqb (state_number st) 2 g) ∙ never_and (is_protocol k)
 
 -- an enabled adapter that isn't a host interface
-by_number : (x : Rows) (p : ℕ) (y : AdapterRow) (k : AdapterType) (st : State) → (type_number k ≡ 3 → ⊥) → eqb (state_number st) 2 ≡ true → cond (is_enabled k st) (of_kind x p y k) (value none) ≡ bind (tunnel_by x p y.number (type_number k)) alone
+by_number : (x : Rows) (p : ℕ) (y : AdapterRow) (k : AdapterType) (st : State) → (type_number k ≡ 3 → ⊥) → eqb (state_number st) 2 ≡ true → cond (is_enabled k st) (of_kind x p y k) (value None) ≡ bind (tunnel_by x p y.number (type_number k)) alone
 unfolding is_enabled is_protocol of_kind tunnel_by bind alone
 by_number x p y type.Unknown st h e = refl
 by_number x p y type.Inactive st h e = refl
 by_number x p y type.Lane st h e = refl
 by_number x p y type.HostInterface st h e = absurd (h refl)
-by_number x p y type.DisplayPortIn st h e = ap (λ b. cond b (of_kind x p y type.DisplayPortIn) (value none)) e
-by_number x p y type.DisplayPortOut st h e = ap (λ b. cond b (of_kind x p y type.DisplayPortOut) (value none)) e
-by_number x p y type.PcieDown st h e = ap (λ b. cond b (of_kind x p y type.PcieDown) (value none)) e
-by_number x p y type.PcieUp st h e = ap (λ b. cond b (of_kind x p y type.PcieUp) (value none)) e
-by_number x p y type.Usb3Down st h e = ap (λ b. cond b (of_kind x p y type.Usb3Down) (value none)) e
-by_number x p y type.Usb3Up st h e = ap (λ b. cond b (of_kind x p y type.Usb3Up) (value none)) e
-by_number x p y type.Usb3GenTDown st h e = ap (λ b. cond b (of_kind x p y type.Usb3GenTDown) (value none)) e
-by_number x p y type.Usb3GenTUp st h e = ap (λ b. cond b (of_kind x p y type.Usb3GenTUp) (value none)) e
+by_number x p y type.DisplayPortIn st h e = ap (λ b. cond b (of_kind x p y type.DisplayPortIn) (value None)) e
+by_number x p y type.DisplayPortOut st h e = ap (λ b. cond b (of_kind x p y type.DisplayPortOut) (value None)) e
+by_number x p y type.PcieDown st h e = ap (λ b. cond b (of_kind x p y type.PcieDown) (value None)) e
+by_number x p y type.PcieUp st h e = ap (λ b. cond b (of_kind x p y type.PcieUp) (value None)) e
+by_number x p y type.Usb3Down st h e = ap (λ b. cond b (of_kind x p y type.Usb3Down) (value None)) e
+by_number x p y type.Usb3Up st h e = ap (λ b. cond b (of_kind x p y type.Usb3Up) (value None)) e
+by_number x p y type.Usb3GenTDown st h e = ap (λ b. cond b (of_kind x p y type.Usb3GenTDown) (value None)) e
+by_number x p y type.Usb3GenTUp st h e = ap (λ b. cond b (of_kind x p y type.Usb3GenTUp) (value None)) e
 
 tunnel_walks : (x : Rows) (p a n : ℕ) (t : Option Tunnel) → tunnel_by x p a n ≡ value t → Walks x t
 unfolding tunnel_by Walks
 tunnel_walks x p a n t e = go (eqb n 4) (eqb n 6) (eqb n 8) t e
   where
-    go : (b c d : Bool) (t : Option Tunnel) → cond b (display_port x p a) (cond c (down_and_up x tunnel_type.Pcie 5 6 p a) (cond d (down_and_up x tunnel_type.Usb3 0 1 p a) (value none))) ≡ value t → Walks x t
+    go : (b c d : Bool) (t : Option Tunnel) → cond b (display_port x p a) (cond c (down_and_up x tunnel_type.Pcie 5 6 p a) (cond d (down_and_up x tunnel_type.Usb3 0 1 p a) (value None))) ≡ value t → Walks x t
     go true c d t e = display_port_walks x p a t e
     go false true d t e = down_and_up_walks x tunnel_type.Pcie 5 6 p a t e
     go false false true t e = down_and_up_walks x tunnel_type.Usb3 0 1 p a t e
-    go false false false none e = omega arith
-    go false false false (some t) e = absurd (let z : ◌≡◌ {A = ℕ} 0 1 = cc in omega arith)
+    go false false false None e = omega arith
+    go false false false (Some t) e = absurd (let z : ◌≡◌ {A = ℕ} 0 1 = cc in omega arith)
 
 -- a plan by the number of a kind
 module _ (en ad ro ma : List ℕ) (p a n : ℕ) where
-  plans_as : (f : Rows → Outcome (Option Tunnel)) (r : Planned) → ((x : Rows) → tunnel_by x p a n ≡ f x) → Plans en ad ro ma p f r → Plans en ad ro ma p (λ x. tunnel_by x p a n) r
+  plans_as : (f : Rows → Outcome (Option Tunnel)) (r : Result (Option Planned) Refusal) → ((x : Rows) → tunnel_by x p a n ≡ f x) → Plans en ad ro ma p f r → Plans en ad ro ma p (λ x. tunnel_by x p a n) r
   plans_as f r e g = record { answers = λ z t l. g.answers z t l ∙ ap (λ o. bind o (λ t. value (plan_if t))) (sym (e (rows_of en ad ro ma))); few = g.few; three = g.three }
 
-  pub plan_display_port : n ≡ 4 → (r : Planned) → Plans en ad ro ma p (λ x. display_port x p a) r → Plans en ad ro ma p (λ x. tunnel_by x p a n) r
+  pub plan_display_port : n ≡ 4 → (r : Result (Option Planned) Refusal) → Plans en ad ro ma p (λ x. display_port x p a) r → Plans en ad ro ma p (λ x. tunnel_by x p a n) r
   unfolding tunnel_by
   plan_display_port e r g = plans_as (λ x. display_port x p a) r (λ x. ap (tunnel_by x p a) e) g
 
-  pub plan_pcie : n ≡ 6 → (r : Planned) → Plans en ad ro ma p (λ x. down_and_up x tunnel_type.Pcie 5 6 p a) r → Plans en ad ro ma p (λ x. tunnel_by x p a n) r
+  pub plan_pcie : n ≡ 6 → (r : Result (Option Planned) Refusal) → Plans en ad ro ma p (λ x. down_and_up x tunnel_type.Pcie 5 6 p a) r → Plans en ad ro ma p (λ x. tunnel_by x p a n) r
   unfolding tunnel_by
   plan_pcie e r g = plans_as (λ x. down_and_up x tunnel_type.Pcie 5 6 p a) r (λ x. ap (tunnel_by x p a) e) g
 
-  pub plan_usb3 : n ≡ 8 → (r : Planned) → Plans en ad ro ma p (λ x. down_and_up x tunnel_type.Usb3 0 1 p a) r → Plans en ad ro ma p (λ x. tunnel_by x p a n) r
+  pub plan_usb3 : n ≡ 8 → (r : Result (Option Planned) Refusal) → Plans en ad ro ma p (λ x. down_and_up x tunnel_type.Usb3 0 1 p a) r → Plans en ad ro ma p (λ x. tunnel_by x p a n) r
   unfolding tunnel_by
   plan_usb3 e r g = plans_as (λ x. down_and_up x tunnel_type.Usb3 0 1 p a) r (λ x. ap (tunnel_by x p a) e) g
 
-  none_by : (n ≡ 4 → ⊥) → (n ≡ 6 → ⊥) → (n ≡ 8 → ⊥) → (x : Rows) → tunnel_by x p a n ≡ value none
+  none_by : (n ≡ 4 → ⊥) → (n ≡ 6 → ⊥) → (n ≡ 8 → ⊥) → (x : Rows) → tunnel_by x p a n ≡ value None
   unfolding tunnel_by
-  none_by i j k x = ap (λ b. cond b (display_port x p a) (cond (eqb n 6) (down_and_up x tunnel_type.Pcie 5 6 p a) (cond (eqb n 8) (down_and_up x tunnel_type.Usb3 0 1 p a) (value none)))) (ne_eqb n 4 i)
-      ∙ ap (λ b. cond b (down_and_up x tunnel_type.Pcie 5 6 p a) (cond (eqb n 8) (down_and_up x tunnel_type.Usb3 0 1 p a) (value none))) (ne_eqb n 6 j)
-      ∙ ap (λ b. cond b (down_and_up x tunnel_type.Usb3 0 1 p a) (value none)) (ne_eqb n 8 k)
+  none_by i j k x = ap (λ b. cond b (display_port x p a) (cond (eqb n 6) (down_and_up x tunnel_type.Pcie 5 6 p a) (cond (eqb n 8) (down_and_up x tunnel_type.Usb3 0 1 p a) (value None)))) (ne_eqb n 4 i)
+      ∙ ap (λ b. cond b (down_and_up x tunnel_type.Pcie 5 6 p a) (cond (eqb n 8) (down_and_up x tunnel_type.Usb3 0 1 p a) (value None))) (ne_eqb n 6 j)
+      ∙ ap (λ b. cond b (down_and_up x tunnel_type.Usb3 0 1 p a) (value None)) (ne_eqb n 8 k)
 
-  pub plan_other : (n ≡ 4 → ⊥) → (n ≡ 6 → ⊥) → (n ≡ 8 → ⊥) → Plans en ad ro ma p (λ x. tunnel_by x p a n) planned.Absent
+  pub plan_other : (n ≡ 4 → ⊥) → (n ≡ 6 → ⊥) → (n ≡ 8 → ⊥) → Plans en ad ro ma p (λ x. tunnel_by x p a n) (Ok None)
   unfolding planned_outcome words_by paths_by plan_if bind
   plan_other i j k = record { answers = λ z t l. sym (ap (λ o. bind o (λ t. value (plan_if t))) (none_by i j k (rows_of en ad ro ma))); few = omega arith; three = omega arith }
 
-module _ (en ad ro ma : List ℕ) (p : ℕ) (f : Facts) (out : List ℕ) (r : TunnelsAnswer) (out' : List ℕ) where
+module _ (en ad ro ma : List ℕ) (p : ℕ) (f : Facts) (out : List ℕ) (r : Result (Option ℕ) Refusal) (out' : List ℕ) where
   abbrev Told : Type 0
   Told = Answered en ad ro ma p (λ x. discover x p (facts_row p f)) out r out'
 
   by_kind : Rows → AdapterType → Outcome (Option (List Tunnel))
-  by_kind x k = cond (is_enabled k f.state) (of_kind x p (facts_row p f) k) (value none)
+  by_kind x k = cond (is_enabled k f.state) (of_kind x p (facts_row p f) k) (value None)
 
   discover_as : (x : Rows) (k : AdapterType) → f.kind ≡ k → discover x p (facts_row p f) ≡ by_kind x k
   unfolding discover facts_row by_kind
@@ -315,63 +305,63 @@ module _ (en ad ro ma : List ℕ) (p : ℕ) (f : Facts) (out : List ℕ) (r : Tu
   host_rings : (x : Rows) → f.kind ≡ type.HostInterface → discover x p (facts_row p f) ≡ dma_by x p f.number (max_hop_outcome (adapter_site p f.number) f.max_hop)
   unfolding by_kind is_enabled of_kind dma dma_by facts_row min_hop or_none bind
   host_rings x e =
-      discover_as x type.HostInterface e ∙ ap (λ k. or_none (min_hop k) (λ lo. bind (max_hop_outcome (adapter_site p f.number) f.max_hop) (λ m. or_none m (λ hi. bind (rings x p f.number lo (hi + 1 - lo)) (λ ts. value (some ts)))))) e
+      discover_as x type.HostInterface e ∙ ap (λ k. or_none (min_hop k) (λ lo. bind (max_hop_outcome (adapter_site p f.number) f.max_hop) (λ m. or_none m (λ hi. bind (rings x p f.number lo (hi + 1 - lo)) (λ ts. value (Some ts)))))) e
       ∙ go (max_hop_outcome (adapter_site p f.number) f.max_hop)
     where
-      go : (o : Outcome (Option ℕ)) → bind o (λ m. or_none m (λ hi. bind (rings x p f.number 1 (hi + 1 - 1)) (λ ts. value (some ts)))) ≡ bind o (λ m. or_none m (λ hi. bind (rings x p f.number 1 hi) (λ ts. value (some ts))))
+      go : (o : Outcome (Option ℕ)) → bind o (λ m. or_none m (λ hi. bind (rings x p f.number 1 (hi + 1 - 1)) (λ ts. value (Some ts)))) ≡ bind o (λ m. or_none m (λ hi. bind (rings x p f.number 1 hi) (λ ts. value (Some ts))))
       go (refused k vs) = refl
-      go (value none) = refl
-      go (value (some hi)) = ap (λ n. bind (rings x p f.number 1 n) (λ ts. value (some ts))) (let z : hi + 1 - 1 ≡ hi = omega arith in z)
+      go (value None) = refl
+      go (value (Some hi)) = ap (λ n. bind (rings x p f.number 1 n) (λ ts. value (Some ts))) (let z : hi + 1 - 1 ≡ hi = omega arith in z)
 
   pub told_host : (n : ℕ) → n ≡ type_number f.kind → n ≡ 3 → Answered en ad ro ma p (λ x. dma_by x p f.number (max_hop_outcome (adapter_site p f.number) f.max_hop)) out r out' → Told
   unfolding type_by
   told_host n e k a = answered_as en ad ro ma p _ _ out r out' (λ z. host_rings (rows_of en ad ro ma) (type_is f.kind n e ∙ ap type_by k)) a
 
   -- one plan's tunnel
-  told_one : (o : Rows → Outcome (Option Tunnel)) (plan : Planned) → ((x : Rows) → discover x p (facts_row p f) ≡ bind (o x) alone) → ((x : Rows) (t : Option Tunnel) → o x ≡ value t → Walks x t) → Plans en ad ro ma p o plan → OneAnswered en ad ro ma plan out r out' → Told
+  told_one : (o : Rows → Outcome (Option Tunnel)) (plan : Result (Option Planned) Refusal) → ((x : Rows) → discover x p (facts_row p f) ≡ bind (o x) alone) → ((x : Rows) (t : Option Tunnel) → o x ≡ value t → Walks x t) → Plans en ad ro ma p o plan → OneAnswered en ad ro ma plan out r out' → Told
   told_one o plan e w g a = record {
     follows = λ z t l. subst (λ q. Follows q out r out') (sym (e (rows_of en ad ro ma))) (a.follows z t (o (rows_of en ad ro ma)) (g.answers z t l) (w (rows_of en ad ro ma)));
     free = a.free;
   }
 
-  pub told_enabled : (n s : ℕ) → n ≡ type_number f.kind → s ≡ state_number f.state → (n ≡ 3 → ⊥) → s ≡ 2 → (plan : Planned) → Plans en ad ro ma p (λ x. tunnel_by x p f.number n) plan → OneAnswered en ad ro ma plan out r out' → Told
+  pub told_enabled : (n s : ℕ) → n ≡ type_number f.kind → s ≡ state_number f.state → (n ≡ 3 → ⊥) → s ≡ 2 → (plan : Result (Option Planned) Refusal) → Plans en ad ro ma p (λ x. tunnel_by x p f.number n) plan → OneAnswered en ad ro ma plan out r out' → Told
   unfolding discover facts_row
   told_enabled n s e q h on plan g a = told_one (λ x. tunnel_by x p f.number n) plan
       (λ x. by_number x p (facts_row p f) f.kind f.state (λ k. h (e ∙ k)) (eq-eqb (state_number f.state) 2 (sym q ∙ on)) ∙ ap (λ k. bind (tunnel_by x p f.number k) alone) (sym e))
       (λ x. tunnel_walks x p f.number n) g a
 
 module _ (en ad ro ma : List ℕ) (p : ℕ) (f : Facts) (out : List ℕ) where
-  told_none : ((x : Rows) → discover x p (facts_row p f) ≡ value none) → Told en ad ro ma p f out answer.Absent out
+  told_none : ((x : Rows) → discover x p (facts_row p f) ≡ value None) → Told en ad ro ma p f out (Ok None) out
   unfolding is_list
-  told_none e = record { follows = λ z t l. follows_none (discover (rows_of en ad ro ma) p (facts_row p f)) out (e (rows_of en ad ro ma)); free = free_kept out answer.Absent refl }
+  told_none e = record { follows = λ z t l. follows_none (discover (rows_of en ad ro ma) p (facts_row p f)) out (e (rows_of en ad ro ma)); free = free_kept out (Ok None) refl }
 
   -- a disabled adapter
-  pub told_disabled : (n s : ℕ) → n ≡ type_number f.kind → s ≡ state_number f.state → (n ≡ 3 → ⊥) → (s ≡ 2 → ⊥) → Told en ad ro ma p f out answer.Absent out
+  pub told_disabled : (n s : ℕ) → n ≡ type_number f.kind → s ≡ state_number f.state → (n ≡ 3 → ⊥) → (s ≡ 2 → ⊥) → Told en ad ro ma p f out (Ok None) out
   unfolding discover facts_row
-  told_disabled n s e q a b = told_none (λ x. ap (λ y. cond y (of_kind x p (facts_row p f) f.kind) (value none)) (not_enabled f.kind f.state (λ k. a (e ∙ k)) (λ k. b (q ∙ k))))
+  told_disabled n s e q a b = told_none (λ x. ap (λ y. cond y (of_kind x p (facts_row p f) f.kind) (value None)) (not_enabled f.kind f.state (λ k. a (e ∙ k)) (λ k. b (q ∙ k))))
 
 -- ---- the device and the adapter that are asked for
 
 module _ (en ad ro ma : List ℕ) (p a : ℕ) (out : List ℕ) where
-  pub in_larger : (Sized en ro → ⊥) → Discovered en ad ro ma p a out answer.Absent out
+  pub in_larger : (Sized en ro → ⊥) → Discovered en ad ro ma p a out (Ok None) out
   unfolding is_list
-  in_larger n = let f = free_kept out answer.Absent refl in record { answers = λ z t. absurd (n z); writes = λ z t. absurd (n z); larger = λ k. refl; kept = f.kept; fits = f.fits; tail = f.tail; long = f.long }
+  in_larger n = let f = free_kept out (Ok None) refl in record { answers = λ z t. absurd (n z); writes = λ z t. absurd (n z); larger = λ k. refl; kept = f.kept; fits = f.fits; tail = f.tail; long = f.long }
 
-  in_by : (r : TunnelsAnswer) (out' : List ℕ) → Sized en ro → (Tabled en ad ro → Follows (discover_at (rows_of en ad ro ma) p a) out r out') → Free out r out' → Discovered en ad ro ma p a out r out'
+  in_by : (r : Result (Option ℕ) Refusal) (out' : List ℕ) → Sized en ro → (Tabled en ad ro → Follows (discover_at (rows_of en ad ro ma) p a) out r out') → Free out r out' → Discovered en ad ro ma p a out r out'
   in_by r out' z f g = record { answers = λ y t. (f t).answers; writes = λ y t. (f t).writes; larger = λ n. absurd (n z); kept = g.kept; fits = g.fits; tail = g.tail; long = g.long }
 
-  in_missing : Sized en ro → (Tabled en ad ro → asked_adapter (rows_of en ad ro ma) p a ≡ refused 14 []) → Discovered en ad ro ma p a out (answer.Refused refusal.Missing) out
-  unfolding is_list discover_at refused_by bind
-  in_missing z f = in_by (answer.Refused refusal.Missing) out z
+  in_missing : Sized en ro → (Tabled en ad ro → asked_adapter (rows_of en ad ro ma) p a ≡ refused 14 []) → Discovered en ad ro ma p a out (Err refusal.Missing) out
+  unfolding is_list discover_at bind
+  in_missing z f = in_by (Err refusal.Missing) out z
       (λ t. follows_refused (discover_at (rows_of en ad ro ma) p a) out refusal.Missing 14 [] (ap (λ o. bind o (λ y. discover (rows_of en ad ro ma) p y)) (f t)) (λ A. refl))
-      (free_kept out (answer.Refused refusal.Missing) refl)
+      (free_kept out (Err refusal.Missing) refl)
 
-  module _ (z : Sized en ro) (d : DeviceFound) (e : device_found p d ≡ device_in (devices_in ro ma) p) where
-    pub no_device : d ≡ device.Nowhere → Discovered en ad ro ma p a out (answer.Refused refusal.Missing) out
+  module _ (z : Sized en ro) (d : Option DeviceFacts) (e : device_found p d ≡ device_in (devices_in ro ma) p) where
+    pub no_device : d ≡ None → Discovered en ad ro ma p a out (Err refusal.Missing) out
     unfolding device_found asked_adapter asked_device present bind rows_of rows_with
     no_device q = in_missing z (λ t. ap (λ o. bind (present o) (λ x. present (adapter_in (adapters_in ad) p a))) (sym e ∙ ap (device_found p) q))
 
-    module _ (v : DeviceFacts) (q : d ≡ device.Device v) where
+    module _ (v : DeviceFacts) (q : d ≡ Some v) where
       near : p < length ro
       unfolding device_found
       near = go (dec_lt p (length ro))
@@ -384,15 +374,15 @@ module _ (en ad ro ma : List ℕ) (p a : ℕ) (out : List ℕ) where
       unfolding device_found asked_adapter asked_device present bind rows_of rows_with
       asked = ap (λ o. bind (present o) (λ x. present (adapter_in (adapters_in ad) p a))) (sym e ∙ ap (device_found p) q)
 
-      module _ (s : AdapterFound) (g : AdapterSought ad p a s) where
+      module _ (s : Option Facts) (g : AdapterSought ad p a s) where
         sought : Tabled en ad ro → adapter_found p s ≡ adapter_in (adapters_in ad) p a
         sought t = g.first (omega (arith, near, z.devices)) t.adapter_order
 
-        pub no_adapter : s ≡ adapter.Nowhere → Discovered en ad ro ma p a out (answer.Refused refusal.Missing) out
+        pub no_adapter : s ≡ None → Discovered en ad ro ma p a out (Err refusal.Missing) out
         unfolding adapter_found present
         no_adapter k = in_missing z (λ t. asked ∙ ap present (sym (sought t) ∙ ap (adapter_found p) k))
 
-        pub in_kind : (f : Facts) → s ≡ adapter.Adapter f → (r : TunnelsAnswer) (out' : List ℕ) → Answered en ad ro ma p (λ x. discover x p (facts_row p f)) out r out' → Discovered en ad ro ma p a out r out'
+        pub in_kind : (f : Facts) → s ≡ Some f → (r : Result (Option ℕ) Refusal) (out' : List ℕ) → Answered en ad ro ma p (λ x. discover x p (facts_row p f)) out r out' → Discovered en ad ro ma p a out r out'
         unfolding adapter_found present discover_at bind
         in_kind f k r out' w = in_by r out' z
             (λ t. subst (λ o. Follows o out r out') (sym (ap (λ o. bind o (λ y. discover (rows_of en ad ro ma) p y)) (asked ∙ ap present (sym (sought t) ∙ ap (adapter_found p) k)))) (w.follows z t (omega (arith, near, z.devices))))

@@ -1,9 +1,10 @@
 -- No entry has a HopID above 65,535: rings past it have no tunnel, and are refused only where another ring is. Assumes nothing.
+use Rattle.std.specs.Option.{option_to_list}
 use Prim.Native.Nat.{ℕ, zero, suc, ◌+◌, ◌-◌, ◌%◌, ◌≤◌, ◌<◌}
 use mathlib.Core.Path.{◌≡◌, refl, sym, ap, ◌∙◌, subst}
 use mathlib.Core.Bool.{Bool, true, false, cond, ◌&&◌, ◌||◌, true≢false, false≢true}
-use mathlib.Core.List.{List, [], ◌∷◌, ◌++◌, map, Option-to_list}
-use mathlib.Core.Option.{Option, none, some}
+use mathlib.Core.List.{List, [], ◌∷◌, ◌++◌, map}
+use Rattle.std.specs.Prelude.{Option, None, Some}
 use native.Mathlib.Omega.{arith}
 use native.Mathlib.Decide.{dec_lt}
 use lib.Dec.{ltb, eqb}
@@ -79,17 +80,17 @@ fresh (suc n) l k = go (among (suc n + 1) l) refl (fresh n (without (suc n + 1) 
 
 -- no entry that is found leaves by it
 unfoldable pub Unused : Rows → ℕ → Type 0
-Unused x v = (p a h : ℕ) (e : EntryRow) → entry_in x.entries p a h ≡ some e → e.out_hop ≡ v → ⊥
+Unused x v = (p a h : ℕ) (e : EntryRow) → entry_in x.entries p a h ≡ Some e → e.out_hop ≡ v → ⊥
 
 abbrev outs : List EntryRow → List ℕ
 outs es = map (λ (e : EntryRow). e.out_hop) es
 
-found_among : (es : List EntryRow) (p a h : ℕ) (e : EntryRow) → entry_in es p a h ≡ some e → among e.out_hop (outs es) ≡ true
+found_among : (es : List EntryRow) (p a h : ℕ) (e : EntryRow) → entry_in es p a h ≡ Some e → among e.out_hop (outs es) ≡ true
 unfolding entry_in among
 found_among [] p a h e q = absurd (let z : ◌≡◌ {A = ℕ} 0 1 = cc in omega arith)
 found_among (y ∷ es) p a h e q = go (eqb y.device p && eqb y.adapter a && eqb y.in_hop h) q (found_among es p a h e)
   where
-    go : (b : Bool) → cond b (some y) (entry_in es p a h) ≡ some e → (entry_in es p a h ≡ some e → among e.out_hop (outs es) ≡ true) → (eqb y.out_hop e.out_hop || among e.out_hop (outs es)) ≡ true
+    go : (b : Bool) → cond b (Some y) (entry_in es p a h) ≡ Some e → (entry_in es p a h ≡ Some e → among e.out_hop (outs es) ≡ true) → (eqb y.out_hop e.out_hop || among e.out_hop (outs es)) ≡ true
     go true f ih = let z : y ≡ e = cc in ap (λ b. b || among e.out_hop (outs es)) (eq-eqb y.out_hop e.out_hop (ap (λ (r : EntryRow). r.out_hop) z))
     go false f ih = pick (eqb y.out_hop e.out_hop) (ih f)
       where
@@ -107,14 +108,14 @@ unfolding last_of
 last_at d e [] = refl
 last_at d e (h ∷ es) = last_at d h es
 
-last_found : (x : Rows) (s : Stand) (e : EntryRow) (es : List EntryRow) → walk_from x s ≡ value (some (e ∷ es)) → (y : Stand) × ((walk_on x).hop y ≡ some (last_of e es))
+last_found : (x : Rows) (s : Stand) (e : EntryRow) (es : List EntryRow) → walk_from x s ≡ value (Some (e ∷ es)) → (y : Stand) × ((walk_on x).hop y ≡ Some (last_of e es))
 last_found x s e es q =
     let h = hopped x s (e ∷ es) q in
     let l : length es < h.count = omega (arith, h.long) in
     let w = hop_to_make (walk_on x) s (length es) (h.ends.hops (length es) l) in
-    (w.0, w.3 ∙ ap some (sym (hop_at_lem (walk_on x) s h.count (length es) w.0 w.1 e l h.ends.hops w.2 w.3) ∙ ap (λ z. get_or z (length es) e) h.hops ∙ last_at e e es))
+    (w.0, w.3 ∙ ap Some (sym (hop_at_lem (walk_on x) s h.count (length es) w.0 w.1 e l h.ends.hops w.2 w.3) ∙ ap (λ z. get_or z (length es) e) h.hops ∙ last_at e e es))
 
-not_used : (x : Rows) (v : ℕ) (s : Stand) (hs : List EntryRow) → Unused x v → walk_from x s ≡ value (some hs) → uses_ring v hs ≡ false
+not_used : (x : Rows) (v : ℕ) (s : Stand) (hs : List EntryRow) → Unused x v → walk_from x s ≡ value (Some hs) → uses_ring v hs ≡ false
 unfolding uses_ring Unused walk_on
 not_used x v s [] u q = refl
 not_used x v s (e ∷ es) u q = let w = last_found x s e es q in ne_eqb (last_of e es).out_hop v (u w.0.place w.0.adapter w.0.hop_id (last_of e es) w.1)
@@ -129,8 +130,8 @@ module _ (x : Rows) (v w : ℕ) (u : Unused x v) (t : Unused x w) where
     where
       go : (o : Outcome (Option (List EntryRow))) → walk_from x (at q n h) ≡ o → among_hops x v q n (suc h) k ≡ among_hops x w q n (suc h) k → bind o (or_rest v (among_hops x v q n (suc h) k)) ≡ bind o (or_rest w (among_hops x w q n (suc h) k))
       go (refused j vs) e ih = refl
-      go (value none) e ih = ih
-      go (value (some hs)) e ih =
+      go (value None) e ih = ih
+      go (value (Some hs)) e ih =
           ap (λ b. cond b (value (received hs)) (among_hops x v q n (suc h) k)) (not_used x v (at q n h) hs u e) ∙ ih ∙ sym (ap (λ b. cond b (value (received hs)) (among_hops x w q n (suc h) k)) (not_used x w (at q n h) hs t e))
 
   lane_alike : (l : Lane) → at_lane x v l ≡ at_lane x w l
@@ -164,8 +165,8 @@ module _ (x : Rows) (v : ℕ) (u : Unused x v) where
     where
       go : (o : Outcome (Option (List EntryRow))) → walk_from x (at q n h) ≡ o → (among_hops x v q n (suc h) k ≡ value (received hs) → ⊥) → bind o (or_rest v (among_hops x v q n (suc h) k)) ≡ value (received hs) → ⊥
       go (refused j vs) f ih g = let z : ◌≡◌ {A = ℕ} 0 1 = cc in omega arith
-      go (value none) f ih g = ih g
-      go (value (some ks)) f ih g = ih (sym (ap (λ b. cond b (value (received ks)) (among_hops x v q n (suc h) k)) (not_used x v (at q n h) ks u f)) ∙ g)
+      go (value None) f ih g = ih g
+      go (value (Some ks)) f ih g = ih (sym (ap (λ b. cond b (value (received ks)) (among_hops x v q n (suc h) k)) (not_used x v (at q n h) ks u f)) ∙ g)
 
   devices_bare : (p : ℕ) (ds : List DeviceRow) → Bare (among_devices x v p ds)
   unfolding among_devices bind or_next at_lane Bare
@@ -185,7 +186,7 @@ module _ (x : Rows) (v : ℕ) (u : Unused x v) where
       along (value dropped) ih g = let z : ◌≡◌ {A = ℕ} 0 1 = cc in omega arith
 
   -- such a ring has no tunnel, where it has no DMA TX path
-  pub bare_tunnel : (r : Receive) → receive x v ≡ value r → ring_tunnel none r ≡ none
+  pub bare_tunnel : (r : Receive) → receive x v ≡ value r → ring_tunnel None r ≡ None
   unfolding receive ring_tunnel with_paths tx_path Bare
   bare_tunnel (received hs) e = absurd (devices_bare 0 x.devices hs e)
   bare_tunnel nothing e = refl
@@ -197,7 +198,7 @@ module _ (en ad ro ma : List ℕ) where
   abbrev x : Rows
   x = rows_of en ad ro ma
 
-  past_walk : (p a h : ℕ) → 65535 < h → walk_from x (at p a h) ≡ value none
+  past_walk : (p a h : ℕ) → 65535 < h → walk_from x (at p a h) ≡ value None
   unfolding rows_of rows_with at
   past_walk p a h k = walk_none x (at p a h) (past_hops en p a h k)
 
@@ -207,29 +208,29 @@ module _ (en ad ro ma : List ℕ) where
   past_out (w ∷ l) v k = ap (λ b. b || among v (outs (entries_in l))) (ne_eqb (w % 65536) v (λ e. omega arith)) ∙ past_out l v k
 
   -- a ring past them is as one of 1 to 4,097 that isn't received
-  past_ring : (p a v : ℕ) → Sized en ro → 65535 < v → ((h : ℕ) → 1 ≤ h → h < 65536 → (t : Option Tunnel) × (one_dma x p a h ≡ value t)) → one_dma x p a v ≡ value none
+  past_ring : (p a v : ℕ) → Sized en ro → 65535 < v → ((h : ℕ) → 1 ≤ h → h < 65536 → (t : Option Tunnel) × (one_dma x p a h ≡ value t)) → one_dma x p a v ≡ value None
   unfolding one_dma bind rows_of rows_with
   past_ring p a v z k each = go (fresh 4096 (outs (entries_in en)) (omega (arith, z.entries, length-map (entries_in en) (λ (e : EntryRow). e.out_hop), length-map en entry_word)))
     where
       u : Unused x v
       u = unused x v (past_out en v k)
 
-      go : (q : ℕ) × (1 ≤ q) × (q ≤ 4096 + 1) × (among q (outs (entries_in en)) ≡ false) → one_dma x p a v ≡ value none
+      go : (q : ℕ) × (1 ≤ q) × (q ≤ 4096 + 1) × (among q (outs (entries_in en)) ≡ false) → one_dma x p a v ≡ value None
       go (q, from, to, n) = there (each q from (omega arith))
         where
           alike : receive x v ≡ receive x q
           alike = receive_alike x v q u (unused x q n)
 
           -- the other ring's search comes to something
-          there : (t : Option Tunnel) × (one_dma x p a q ≡ value t) → one_dma x p a v ≡ value none
+          there : (t : Option Tunnel) × (one_dma x p a q ≡ value t) → one_dma x p a v ≡ value None
           there (t, f) = by (walk_from x (at p a q)) (receive x q) refl f
             where
-              by : (s : Outcome (Option (List EntryRow))) (o : Outcome Receive) → receive x q ≡ o → bind s (λ tx. bind o (λ r. value (ring_tunnel tx r))) ≡ value t → one_dma x p a v ≡ value none
+              by : (s : Outcome (Option (List EntryRow))) (o : Outcome Receive) → receive x q ≡ o → bind s (λ tx. bind o (λ r. value (ring_tunnel tx r))) ≡ value t → one_dma x p a v ≡ value None
               by (refused j vs) o e g = absurd (let y : ◌≡◌ {A = ℕ} 0 1 = cc in omega arith)
               by (value tx) (refused j vs) e g = absurd (let y : ◌≡◌ {A = ℕ} 0 1 = cc in omega arith)
               by (value tx) (value r) e g =
                   ap (λ s. bind s (λ tx. bind (receive x v) (λ r. value (ring_tunnel tx r)))) (past_walk p a v k)
-                  ∙ ap (λ o. bind o (λ r. value (ring_tunnel none r))) (alike ∙ e)
+                  ∙ ap (λ o. bind o (λ r. value (ring_tunnel None r))) (alike ∙ e)
                   ∙ ap value (bare_tunnel x v u r (alike ∙ e))
 
   -- every ring of those that are discovered
@@ -237,7 +238,7 @@ module _ (en ad ro ma : List ℕ) where
   each_ring p a h zero ts e j l m = absurd (omega arith)
   each_ring p a h (suc k) ts e j l m = go (rings_split x p a h k ts e) (dec_lt h j) (λ vs g n. each_ring p a (suc h) k vs g j n (omega arith))
     where
-      go : (t : Option Tunnel) × (vs : List Tunnel) × (one_dma x p a h ≡ value t) × (rings x p a (suc h) k ≡ value vs) × (ts ≡ Option-to_list t ++ vs) → Dec (h < j) → ((vs : List Tunnel) → rings x p a (suc h) k ≡ value vs → suc h ≤ j → (t : Option Tunnel) × (one_dma x p a j ≡ value t)) → (t : Option Tunnel) × (one_dma x p a j ≡ value t)
+      go : (t : Option Tunnel) × (vs : List Tunnel) × (one_dma x p a h ≡ value t) × (rings x p a (suc h) k ≡ value vs) × (ts ≡ option_to_list t ++ vs) → Dec (h < j) → ((vs : List Tunnel) → rings x p a (suc h) k ≡ value vs → suc h ≤ j → (t : Option Tunnel) × (one_dma x p a j ≡ value t)) → (t : Option Tunnel) × (one_dma x p a j ≡ value t)
       go (t, vs, f, g, q) (yes n) ih = ih vs g (omega arith)
       go (t, vs, f, g, q) (no n) ih = (t, ap (one_dma x p a) (let y : j ≡ h = omega arith in y) ∙ f)
 
@@ -247,10 +248,10 @@ module _ (en ad ro ma : List ℕ) where
   rings_refused p a h zero m j vs e = absurd (let y : ◌≡◌ {A = ℕ} 0 1 = cc in omega arith)
   rings_refused p a h (suc k) m j vs e = ap (rings x p a h) (let y : suc k + m ≡ suc (k + m) = omega arith in y) ∙ go (one_dma x p a h) (rings x p a (suc h) k) refl (rings_refused p a (suc h) k m j vs) e
     where
-      go : (o : Outcome (Option Tunnel)) (q : Outcome (List Tunnel)) → rings x p a (suc h) k ≡ q → (rings x p a (suc h) k ≡ refused j vs → rings x p a (suc h) (k + m) ≡ refused j vs) → bind o (λ t. bind q (λ ts. value (Option-to_list t ++ ts))) ≡ refused j vs
-          → bind o (λ t. bind (rings x p a (suc h) (k + m)) (λ ts. value (Option-to_list t ++ ts))) ≡ refused j vs
+      go : (o : Outcome (Option Tunnel)) (q : Outcome (List Tunnel)) → rings x p a (suc h) k ≡ q → (rings x p a (suc h) k ≡ refused j vs → rings x p a (suc h) (k + m) ≡ refused j vs) → bind o (λ t. bind q (λ ts. value (option_to_list t ++ ts))) ≡ refused j vs
+          → bind o (λ t. bind (rings x p a (suc h) (k + m)) (λ ts. value (option_to_list t ++ ts))) ≡ refused j vs
       go (refused i us) q f ih g = g
-      go (value t) (refused i us) f ih g = ap (λ r. bind r (λ ts. value (Option-to_list t ++ ts))) (ih (f ∙ (let y : i ≡ j = cc in let z : us ≡ vs = cc in ap (λ n. refused n us) y ∙ ap (refused j) z)))
+      go (value t) (refused i us) f ih g = ap (λ r. bind r (λ ts. value (option_to_list t ++ ts))) (ih (f ∙ (let y : i ≡ j = cc in let z : us ≡ vs = cc in ap (λ n. refused n us) y ∙ ap (refused j) z)))
       go (value t) (value us) f ih g = absurd (let y : ◌≡◌ {A = ℕ} 0 1 = cc in omega arith)
 
   rings_same : (p a h k m : ℕ) → rings x p a (h + k) m ≡ value [] → rings x p a h (k + m) ≡ rings x p a h k
@@ -258,13 +259,13 @@ module _ (en ad ro ma : List ℕ) where
   rings_same p a h zero m e = ap (λ n. rings x p a n (0 + m)) (let y : h ≡ h + 0 = omega arith in y) ∙ ap (rings x p a (h + 0)) (let y : 0 + m ≡ m = omega arith in y) ∙ e
   rings_same p a h (suc k) m e =
       ap (rings x p a h) (let y : suc k + m ≡ suc (k + m) = omega arith in y)
-      ∙ ap (λ r. bind (one_dma x p a h) (λ t. bind r (λ ts. value (Option-to_list t ++ ts)))) (rings_same p a (suc h) k m (ap (λ n. rings x p a n m) (let y : suc h + k ≡ h + suc k = omega arith in y) ∙ e))
+      ∙ ap (λ r. bind (one_dma x p a h) (λ t. bind r (λ ts. value (option_to_list t ++ ts)))) (rings_same p a (suc h) k m (ap (λ n. rings x p a n m) (let y : suc h + k ≡ h + suc k = omega arith in y) ∙ e))
 
-  rings_none : (p a h m : ℕ) → ((v : ℕ) → h ≤ v → one_dma x p a v ≡ value none) → rings x p a h m ≡ value []
-  unfolding rings bind Option-to_list
+  rings_none : (p a h m : ℕ) → ((v : ℕ) → h ≤ v → one_dma x p a v ≡ value None) → rings x p a h m ≡ value []
+  unfolding rings bind
   rings_none p a h zero f = refl
   rings_none p a h (suc m) f =
-      ap (λ o. bind o (λ t. bind (rings x p a (suc h) m) (λ ts. value (Option-to_list t ++ ts)))) (f h (omega arith))
+      ap (λ o. bind o (λ t. bind (rings x p a (suc h) m) (λ ts. value (option_to_list t ++ ts)))) (f h (omega arith))
       ∙ ap (λ r. bind r (λ ts. value ([] ++ ts))) (rings_none p a (suc h) m (λ v l. f v (omega arith)))
 
   pub rings_capped : (p a hi : ℕ) → Sized en ro → rings x p a 1 hi ≡ rings x p a 1 (rings_end hi - 1)

@@ -3,7 +3,7 @@ use Prim.Native.Nat.{ℕ, suc, ◌+◌, ◌*◌, ◌/◌, ◌%◌, ◌^◌, ◌�
 use mathlib.Core.Path.{◌≡◌, refl, sym, ap, ◌∙◌, subst}
 use mathlib.Core.Bool.{Bool, true, false, cond, ◌&&◌, ◌||◌}
 use mathlib.Core.List.{List}
-use mathlib.Core.Option.{none, some}
+use Rattle.std.specs.Prelude.{None, Some, Result}
 use native.Mathlib.Omega.{arith}
 use native.Mathlib.Decide.{dec_lt}
 use native.Mathlib.Numerals.{add-one}
@@ -19,6 +19,7 @@ use Rattle.walk.specs.Tables.{rows_of, Tabled}
 use Rattle.receive.specs.Receive.{at, Receive, receive}
 use Rattle.receive.specs.Tables.{Said, said_of, received_outcome, Receives}
 use Rattle.receive.specs.declared.Received.{Received}
+use Rattle.refusal.specs.declared.Refusal.{Refusal}
 use Rattle.receive.proofs.Hops.{walk_none}
 use Rattle.tunnel.specs.Tunnels.{ring_tunnel, one_dma}
 use Rattle.discovery.specs.Work.{among, out_hops, Quiet, Unasked, mark_of, Unmarked, Spared, Resting, Idle}
@@ -88,7 +89,7 @@ module _ (en : List ℕ) (p a i : ℕ) where
   unfolding entry_in entry_word
   entry_on l j n =
       ap (λ (z : List ℕ). entry_in (entries_in z) p a j) (drop-cons en i 0 l)
-      ∙ ap (λ b. cond b (some (entry_word (get_or en i 0))) (entry_in (entries_in (drop (suc i) en)) p a j)) (not_here (get_or en i 0) p a j n)
+      ∙ ap (λ b. cond b (Some (entry_word (get_or en i 0))) (entry_in (entries_in (drop (suc i) en)) p a j)) (not_here (get_or en i 0) p a j n)
       ∙ ap (λ (k : ℕ). entry_in (entries_in (drop k en)) p a j) (sym (add-one i))
 
   pub sparing_on : (idle idle' : List ℕ) → Sparing en p a i idle → i < length en → (owner : ℕ) → owner ≡ p % 65536 * 256 + a → a < 256 → Spared (get_or en i 0) owner idle idle' → Sparing en p a (i + 1) idle'
@@ -117,7 +118,7 @@ said_value (value r) s e = (r, refl)
 
 module _ (en ad ro ma : List ℕ) where
   -- one ring's, for all that no entry leaves by
-  pub quiet : (w : ℕ) (r : Received) (s : Said) → among w (out_hops en) ≡ false → Receives en ad ro ma w r → received_outcome w r ≡ value s → Quiet en ad ro ma
+  pub quiet : (w : ℕ) (r : Result Received Refusal) (s : Said) → among w (out_hops en) ≡ false → Receives en ad ro ma w r → received_outcome w r ≡ value s → Quiet en ad ro ma
   unfolding rows_of rows_with out_hops
   quiet w r s n f e = record {
     searched = λ t v m.
@@ -127,12 +128,12 @@ module _ (en ad ro ma : List ℕ) where
 
   -- such a ring has no tunnel where no entry stands at it
 
-  rests : (p a v : ℕ) → Quiet en ad ro ma → Unasked en p a v → Tabled en ad ro → p < 65536 → one_dma (rows_of en ad ro ma) p a v ≡ value none
+  rests : (p a v : ℕ) → Quiet en ad ro ma → Unasked en p a v → Tabled en ad ro → p < 65536 → one_dma (rows_of en ad ro ma) p a v ≡ value None
   unfolding one_dma bind rows_of rows_with out_hops at
   rests p a v q u t l =
       let y = q.searched t v u.unused in
       ap (λ s. bind s (λ tx. bind (receive (rows_of en ad ro ma) v) (λ r. value (ring_tunnel tx r)))) (walk_none (rows_of en ad ro ma) (at p a v) (u.missing l))
-      ∙ ap (λ o. bind o (λ r. value (ring_tunnel none r))) y.1
+      ∙ ap (λ o. bind o (λ r. value (ring_tunnel None r))) y.1
       ∙ ap value (bare_tunnel (rows_of en ad ro ma) v (unused (rows_of en ad ro ma) v u.unused) y.0 y.1)
 
   pub all_rest : (p a : ℕ) (idle : List ℕ) → Quiet en ad ro ma → Resting en p a idle → Idle en ad ro ma p a idle

@@ -1,10 +1,11 @@
 -- Laws of the loops over rings: what is left to count or write gives the whole. Assumes nothing.
+use Rattle.std.specs.Option.{option_to_list}
 use Prim.Native.Nat.{ℕ, suc, ◌+◌, ◌-◌, ◌*◌, ◌≤◌, ◌<◌}
 use mathlib.Core.Path.{◌≡◌, refl, sym, ap, ◌∙◌, subst}
 use mathlib.Core.Bool.{Bool, true, false, cond}
 use mathlib.Core.Logic.{◌⊎◌, inl, inr, ⊎_elim}
-use mathlib.Core.List.{List, [], ◌∷◌, ◌++◌, append_assoc, append-nil, Option-to_list}
-use mathlib.Core.Option.{Option, none, some}
+use mathlib.Core.List.{List, [], ◌∷◌, ◌++◌, append_assoc, append-nil}
+use Rattle.std.specs.Prelude.{Option, None, Some, Err, Ok, Result}
 use native.Mathlib.Omega.{arith}
 use native.Mathlib.Decide.{dec_lt}
 use lib.Dec.{ltb}
@@ -12,54 +13,47 @@ use lib.ListN.{length, get_or, take, set, replicate, length-append, length-repli
 use lib.Seq.{length-take-le, take_all, get_or-set_other}
 use Rattle.refusal.specs.Outcome.{Outcome, refused, value, bind}
 use Rattle.tables.specs.Rows.{Rows}
-use Rattle.load.specs.Answers.{refused_by}
-use Rattle.load.specs.declared.Refusal.{Refusal}
-use Rattle.load.proofs.Result.{refused_bind}
+use Rattle.refusal.specs.Refusal.{refused_by}
+use Rattle.refusal.specs.declared.Refusal.{Refusal}
+use Rattle.refusal.proofs.Laws.{refused_bind}
 use Rattle.walk.specs.Tables.{rows_of, Tabled}
 use Rattle.path.specs.Put.{Sized}
 use Rattle.path.proofs.Writing.{refused_as_lem}
 use Rattle.tunnel.specs.Tunnels.{Tunnel, one_dma, rings}
 use Rattle.tunnel.specs.Words.{tunnel_words, tunnels_words}
 use Rattle.tunnel.specs.Plans.{Plan, from_by, plan_of, plan_if, planned_outcome, words_by, paths_by, Plans}
-use Rattle.tunnel.specs.declared.Planned.{Planned}
-use Rattle.tunnel.specs.declared.Planned.TheVariants as planned
+use Rattle.tunnel.specs.declared.Plan.{Plan as Planned}
 use Rattle.discovery.specs.Work.{Wrote, tally_of, tallied, mark_of, Marked, Idle, Drafted, Tallies, RingPut, RingsPut, PlanPut}
-use Rattle.discovery.specs.declared.Tally.TheVariants as tally
 use Rattle.discovery.proofs.Walks.{one_dma_walks}
 use Rattle.discovery.proofs.Writing.{wrote_nothing, wrote_front}
 
 -- ---- a plan, by what it is the plan of
 
-abbrev Planning : Planned → Outcome (Option Tunnel) → Type 0
+abbrev Planning : Result (Option Planned) Refusal → Outcome (Option Tunnel) → Type 0
 Planning plan o = planned_outcome plan ≡ bind o (λ t. value (plan_if t))
 
 -- its words are the tunnel's
-pub plan_words : (plan : Planned) (o : Outcome (Option Tunnel)) → Planning plan o → (w : ℕ) → tally_of plan ≡ tally.Words w → (t : Option Tunnel) × (o ≡ value t) × (w ≡ length (tunnels_words (Option-to_list t))) × (planned_outcome plan ≡ value (plan_if t))
-unfolding planned_outcome bind plan_if plan_of tally_of tunnels_words Option-to_list
-plan_words (planned.Tunnel k c v n a b d) (refused j vs) e w f = absurd (let z : ◌≡◌ {A = ℕ} 0 1 = cc in omega arith)
-plan_words (planned.Tunnel k c v n a b d) (value none) e w f = absurd (let z : ◌≡◌ {A = ℕ} 0 1 = cc in omega arith)
-plan_words (planned.Tunnel k c v n a b d) (value (some t)) e w f =
-    let z : record { type = k; closed = c; words = v; starts = take n (from_by a ∷ from_by b ∷ from_by d ∷ []) } ≡ plan_of t = cc in
-    let u : v ≡ length (tunnel_words t) = ap (λ (q : Plan). q.words) z in
-    let y : v ≡ w = cc in
-    (some t, refl, omega (arith, length-append (tunnel_words t) []), e)
-plan_words planned.Absent (refused j vs) e w f = absurd (let z : ◌≡◌ {A = ℕ} 0 1 = cc in omega arith)
-plan_words planned.Absent (value none) e w f = (none, refl, (let y : 0 ≡ w = cc in omega arith), e)
-plan_words planned.Absent (value (some t)) e w f = absurd (let z : ◌≡◌ {A = ℕ} 0 1 = cc in omega arith)
-plan_words (planned.Refused r) o e w f = absurd (let z : ◌≡◌ {A = ℕ} 0 1 = cc in omega arith)
+pub plan_words : (plan : Option Planned) (o : Outcome (Option Tunnel)) → Planning (Ok plan) o → (w : ℕ) → tally_of plan ≡ w → (t : Option Tunnel) × (o ≡ value t) × (w ≡ length (tunnels_words (option_to_list t))) × (planned_outcome (Ok plan) ≡ value (plan_if t))
+unfolding planned_outcome bind plan_if plan_of tally_of tunnels_words
+plan_words (Some p) (refused j vs) e w f = absurd (let z : ◌≡◌ {A = ℕ} 0 1 = cc in omega arith)
+plan_words (Some p) (value None) e w f = absurd (let z : ◌≡◌ {A = ℕ} 0 1 = cc in omega arith)
+plan_words (Some p) (value (Some t)) e w f =
+    let z : record { type = p.kind; closed = p.closed; words = p.words; starts = take p.paths (from_by p.first ∷ from_by p.second ∷ from_by p.third ∷ []) } ≡ plan_of t = cc in
+    let u : p.words ≡ length (tunnel_words t) = ap (λ (q : Plan). q.words) z in
+    (Some t, refl, omega (arith, f, u, length-append (tunnel_words t) []), e)
+plan_words None (refused j vs) e w f = absurd (let z : ◌≡◌ {A = ℕ} 0 1 = cc in omega arith)
+plan_words None (value None) e w f = (None, refl, sym f, e)
+plan_words None (value (Some t)) e w f = absurd (let z : ◌≡◌ {A = ℕ} 0 1 = cc in omega arith)
 
-pub plan_refused : (plan : Planned) (o : Outcome (Option Tunnel)) → Planning plan o → (r : Refusal) → tally_of plan ≡ tally.Refused r → (k : ℕ) × (vs : List ℕ) × (o ≡ refused k vs) × ((A : Type 0) → refused_by {A = A} r ≡ refused k vs)
-unfolding planned_outcome bind plan_if tally_of
-plan_refused (planned.Tunnel k c v n a b d) o e r f = absurd (let z : ◌≡◌ {A = ℕ} 0 1 = cc in omega arith)
-plan_refused planned.Absent o e r f = absurd (let z : ◌≡◌ {A = ℕ} 0 1 = cc in omega arith)
-plan_refused (planned.Refused s) (refused k vs) e r f = (k, vs, refl, λ A. ap (refused_by {A = A}) (let z : r ≡ s = cc in z) ∙ sym (refused_bind s (λ y. refused 0 [])) ∙ ap (λ w. bind w (λ y. refused 0 [])) e)
-plan_refused (planned.Refused s) (value t) e r f = absurd (let w = refused_as_lem (value (plan_if t)) s e in let v = w.2 in let z : ◌≡◌ {A = ℕ} 0 1 = cc in omega arith)
+pub plan_refused : (r : Refusal) (o : Outcome (Option Tunnel)) → Planning (Err r) o → (k : ℕ) × (vs : List ℕ) × (o ≡ refused k vs) × ((A : Type 0) → refused_by {A = A} r ≡ refused k vs)
+unfolding planned_outcome bind plan_if
+plan_refused r (refused k vs) e = (k, vs, refl, λ A. sym (refused_bind r (λ y. refused 0 [])) ∙ ap (λ w. bind w (λ y. refused 0 [])) e)
+plan_refused r (value t) e = absurd (let w = refused_as_lem (value (plan_if t)) r e in let v = w.2 in let z : ◌≡◌ {A = ℕ} 0 1 = cc in omega arith)
 
-pub tally_few : (plan : Planned) (w : ℕ) → tally_of plan ≡ tally.Words w → words_by plan ≤ 1048576 → w ≤ 1048576
+pub tally_few : (plan : Option Planned) (w : ℕ) → tally_of plan ≡ w → words_by (Ok plan) ≤ 1048576 → w ≤ 1048576
 unfolding tally_of words_by
-tally_few (planned.Tunnel k c v n a b d) w f l = let y : v ≡ w = cc in omega arith
-tally_few planned.Absent w f l = let y : 0 ≡ w = cc in omega arith
-tally_few (planned.Refused r) w f l = absurd (let z : ◌≡◌ {A = ℕ} 0 1 = cc in omega arith)
+tally_few (Some p) w f l = omega (arith, f, l)
+tally_few None w f l = omega (arith, f)
 
 -- ---- rings one by one
 
@@ -72,35 +66,35 @@ tunnels_append (t ∷ ts) us = ap (λ l. tunnel_words t ++ l) (tunnels_append ts
 unfoldable pub counts : Rows → ℕ → ℕ → ℕ → ℕ → ℕ → Outcome ℕ
 counts x p a h k n = bind (rings x p a h k) (λ ts. value (n + length (tunnels_words ts)))
 
-counts_step : (x : Rows) (p a h k n : ℕ) (t : Option Tunnel) → one_dma x p a h ≡ value t → counts x p a h (suc k) n ≡ counts x p a (suc h) k (n + length (tunnels_words (Option-to_list t)))
+counts_step : (x : Rows) (p a h k n : ℕ) (t : Option Tunnel) → one_dma x p a h ≡ value t → counts x p a h (suc k) n ≡ counts x p a (suc h) k (n + length (tunnels_words (option_to_list t)))
 unfolding counts rings bind
-counts_step x p a h k n t e = ap (λ o. bind (bind o (λ t. bind (rings x p a (suc h) k) (λ ts. value (Option-to_list t ++ ts)))) (λ ts. value (n + length (tunnels_words ts)))) e ∙ go (rings x p a (suc h) k)
+counts_step x p a h k n t e = ap (λ o. bind (bind o (λ t. bind (rings x p a (suc h) k) (λ ts. value (option_to_list t ++ ts)))) (λ ts. value (n + length (tunnels_words ts)))) e ∙ go (rings x p a (suc h) k)
   where
-    go : (o : Outcome (List Tunnel)) → bind (bind o (λ ts. value (Option-to_list t ++ ts))) (λ ts. value (n + length (tunnels_words ts))) ≡ bind o (λ ts. value (n + length (tunnels_words (Option-to_list t)) + length (tunnels_words ts)))
+    go : (o : Outcome (List Tunnel)) → bind (bind o (λ ts. value (option_to_list t ++ ts))) (λ ts. value (n + length (tunnels_words ts))) ≡ bind o (λ ts. value (n + length (tunnels_words (option_to_list t)) + length (tunnels_words ts)))
     go (refused j vs) = refl
-    go (value ts) = ap value (omega (arith, ap length (tunnels_append (Option-to_list t) ts), length-append (tunnels_words (Option-to_list t)) (tunnels_words ts)))
+    go (value ts) = ap value (omega (arith, ap length (tunnels_append (option_to_list t) ts), length-append (tunnels_words (option_to_list t)) (tunnels_words ts)))
 
 -- a ring that is refused
 counts_refused : (x : Rows) (p a h k n j : ℕ) (vs : List ℕ) → one_dma x p a h ≡ refused j vs → counts x p a h (suc k) n ≡ refused j vs
 unfolding counts rings bind
-counts_refused x p a h k n j vs e = ap (λ o. bind (bind o (λ t. bind (rings x p a (suc h) k) (λ ts. value (Option-to_list t ++ ts)))) (λ ts. value (n + length (tunnels_words ts)))) e
+counts_refused x p a h k n j vs e = ap (λ o. bind (bind o (λ t. bind (rings x p a (suc h) k) (λ ts. value (option_to_list t ++ ts)))) (λ ts. value (n + length (tunnels_words ts)))) e
 
 -- the first of rings that are discovered, and the others
-pub rings_split : (x : Rows) (p a h k : ℕ) (us : List Tunnel) → rings x p a h (suc k) ≡ value us → (t : Option Tunnel) × (vs : List Tunnel) × (one_dma x p a h ≡ value t) × (rings x p a (suc h) k ≡ value vs) × (us ≡ Option-to_list t ++ vs)
+pub rings_split : (x : Rows) (p a h k : ℕ) (us : List Tunnel) → rings x p a h (suc k) ≡ value us → (t : Option Tunnel) × (vs : List Tunnel) × (one_dma x p a h ≡ value t) × (rings x p a (suc h) k ≡ value vs) × (us ≡ option_to_list t ++ vs)
 unfolding rings bind
 rings_split x p a h k us e = go (one_dma x p a h) (rings x p a (suc h) k) e
   where
-    go : (o : Outcome (Option Tunnel)) (q : Outcome (List Tunnel)) → bind o (λ t. bind q (λ ts. value (Option-to_list t ++ ts))) ≡ value us → (t : Option Tunnel) × (vs : List Tunnel) × (o ≡ value t) × (q ≡ value vs) × (us ≡ Option-to_list t ++ vs)
+    go : (o : Outcome (Option Tunnel)) (q : Outcome (List Tunnel)) → bind o (λ t. bind q (λ ts. value (option_to_list t ++ ts))) ≡ value us → (t : Option Tunnel) × (vs : List Tunnel) × (o ≡ value t) × (q ≡ value vs) × (us ≡ option_to_list t ++ vs)
     go (refused j vs) q f = absurd (let z : ◌≡◌ {A = ℕ} 0 1 = cc in omega arith)
     go (value t) (refused j vs) f = absurd (let z : ◌≡◌ {A = ℕ} 0 1 = cc in omega arith)
     go (value t) (value vs) f = (t, vs, refl, refl, cc)
 
 -- ---- rings that have no tunnel
 
-no_words : (t : Option Tunnel) → length (tunnels_words (Option-to_list t)) < 1 → t ≡ none
-unfolding tunnels_words tunnel_words Option-to_list
-no_words none l = refl
-no_words (some t) l = absurd (omega (arith, length-append (tunnel_words t) []))
+no_words : (t : Option Tunnel) → length (tunnels_words (option_to_list t)) < 1 → t ≡ None
+unfolding tunnels_words tunnel_words
+no_words None l = refl
+no_words (Some t) l = absurd (omega (arith, length-append (tunnel_words t) []))
 
 no_length : (l : List ℕ) → length l ≡ 0 → l ≡ []
 no_length [] e = refl
@@ -135,21 +129,21 @@ module _ (en ad ro ma : List ℕ) (p a : ℕ) where
       go j e (yes l) = omega (arith, get_or-replicate {A = ℕ} n j 0 0 l)
       go j e (no l) = omega (arith, get_or-eq_default {A = ℕ} (replicate n 0) 0 {n = j} (omega (arith, length-replicate {A = ℕ} n 0)))
 
-  pub idle_marked : (idle idle' : List ℕ) → Idle en ad ro ma p a idle → (ring : ℕ) (plan : Planned) → Plans en ad ro ma p (λ x. one_dma x p a ring) plan → (w : ℕ) → tally_of plan ≡ tally.Words w → Marked ring w idle idle' → Idle en ad ro ma p a idle'
-  idle_marked idle idle' i ring plan f w e m = record { rests = λ z t q j g. ⊎_elim (i.rests z t q j) (λ h. subst (λ k. one_dma (rows_of en ad ro ma) p a k ≡ value none) (sym (own_mark j ring h.0 h.1)) (here z t q h.2)) (m.marks (mark_of j) g) }
+  pub idle_marked : (idle idle' : List ℕ) → Idle en ad ro ma p a idle → (ring : ℕ) (plan : Option Planned) → Plans en ad ro ma p (λ x. one_dma x p a ring) (Ok plan) → (w : ℕ) → tally_of plan ≡ w → Marked ring w idle idle' → Idle en ad ro ma p a idle'
+  idle_marked idle idle' i ring plan f w e m = record { rests = λ z t q j g. ⊎_elim (i.rests z t q j) (λ h. subst (λ k. one_dma (rows_of en ad ro ma) p a k ≡ value None) (sym (own_mark j ring h.0 h.1)) (here z t q h.2)) (m.marks (mark_of j) g) }
     where
-      here : Sized en ro → Tabled en ad ro → p < 65536 → w < 1 → one_dma (rows_of en ad ro ma) p a ring ≡ value none
+      here : Sized en ro → Tabled en ad ro → p < 65536 → w < 1 → one_dma (rows_of en ad ro ma) p a ring ≡ value None
       here z t q l = let y = plan_words plan (one_dma (rows_of en ad ro ma) p a ring) (f.answers z t q) w e in y.1 ∙ ap value (no_words y.0 (omega (arith, y.2)))
 
   pub ring_idle : (idle : List ℕ) → Idle en ad ro ma p a idle → (ring : ℕ) → get_or idle (mark_of ring) 0 ≡ 1 → (at : ℕ) (out : List ℕ) → at ≤ length out → RingPut en ad ro ma p a ring at out at out
-  unfolding tunnels_words Option-to_list
+  unfolding tunnels_words
   ring_idle idle i ring e at out l = record {
     within = l;
     long = refl;
-    words = λ z t q o g room. let y = sym (i.rests z t q ring e) ∙ g in let v : none ≡ o = cc in subst (λ k. Wrote at (tunnels_words (Option-to_list k)) out at out) v (wrote_nothing at out);
+    words = λ z t q o g room. let y = sym (i.rests z t q ring e) ∙ g in let v : None ≡ o = cc in subst (λ k. Wrote at (tunnels_words (option_to_list k)) out at out) v (wrote_nothing at out);
   }
 
-  pub ring_put : (ring : ℕ) (plan : Planned) → Plans en ad ro ma p (λ x. one_dma x p a ring) plan → (at : ℕ) (out : List ℕ) (r : ℕ) (out' : List ℕ) → PlanPut en ad ro ma plan at out r out' → RingPut en ad ro ma p a ring at out r out'
+  pub ring_put : (ring : ℕ) (plan : Result (Option Planned) Refusal) → Plans en ad ro ma p (λ x. one_dma x p a ring) plan → (at : ℕ) (out : List ℕ) (r : ℕ) (out' : List ℕ) → PlanPut en ad ro ma plan at out r out' → RingPut en ad ro ma p a ring at out r out'
   unfolding bind
   ring_put ring plan f at out r out' w = record {
     within = w.within;
@@ -157,7 +151,7 @@ module _ (en ad ro ma : List ℕ) (p a : ℕ) where
     words = λ z t q o e room. w.words z t o (f.answers z t q ∙ ap (λ y. bind y (λ t. value (plan_if t))) e) (one_dma_walks (rows_of en ad ro ma) p a ring o e) room;
   }
 
-  pub idle_plan : (idle : List ℕ) → Idle en ad ro ma p a idle → (ring : ℕ) → get_or idle (mark_of ring) 0 ≡ 1 → Plans en ad ro ma p (λ x. one_dma x p a ring) planned.Absent
+  pub idle_plan : (idle : List ℕ) → Idle en ad ro ma p a idle → (ring : ℕ) → get_or idle (mark_of ring) 0 ≡ 1 → Plans en ad ro ma p (λ x. one_dma x p a ring) (Ok None)
   unfolding planned_outcome words_by paths_by plan_if bind
   idle_plan idle i ring e = record {
     answers = λ z t l. sym (ap (λ o. bind o (λ k. value (plan_if k))) (i.rests z t l ring e));
@@ -166,7 +160,7 @@ module _ (en ad ro ma : List ℕ) (p a : ℕ) where
   }
 
 -- rings that are refused have no words to draft
-pub drafted_refused : (en ad ro ma : List ℕ) (p a k : ℕ) (r : Refusal) → Tallies en ad ro ma p a k (tally.Refused r) → (draft : List ℕ) → Drafted en ad ro ma p a k draft
+pub drafted_refused : (en ad ro ma : List ℕ) (p a k : ℕ) (r : Refusal) → Tallies en ad ro ma p a k (Err r) → (draft : List ℕ) → Drafted en ad ro ma p a k draft
 unfolding tallied bind
 drafted_refused en ad ro ma p a k r t draft = record {
   words = λ z l q ts e n. absurd (let y = refused_as_lem (value (length (tunnels_words ts))) r (t.counts z l q ∙ ap (λ o. bind o (λ us. value (length (tunnels_words us)))) e) in let v = y.2 in let u : ◌≡◌ {A = ℕ} 0 1 = cc in omega arith);
@@ -196,40 +190,40 @@ module _ (en ad ro ma : List ℕ) (p a end : ℕ) where
       go (refused j vs) = refl
       go (value ts) = ap value (omega arith)
 
-  pub counted_end : (need ring : ℕ) → Counted need ring → end ≤ ring → Tallies en ad ro ma p a (end - 1) (tally.Words need)
+  pub counted_end : (need ring : ℕ) → Counted need ring → end ≤ ring → Tallies en ad ro ma p a (end - 1) (Ok need)
   unfolding tallied counts rings bind tunnels_words
   counted_end need ring c l = record {
     counts = λ z t q. sym (c.rest z t q ∙ ap (λ k. counts (rows_of en ad ro ma) p a ring k need) (let y : end - ring ≡ 0 = omega arith in y) ∙ ap value (let y : need + 0 ≡ need = omega arith in y));
   }
 
-  module _ (need ring : ℕ) (c : Counted need ring) (more : ring < end) (plan : Planned) (f : Plans en ad ro ma p (λ x. one_dma x p a ring) plan) where
+  module _ (need ring : ℕ) (c : Counted need ring) (more : ring < end) where
     left : end - ring ≡ suc (end - (ring + 1))
     left = omega arith
 
-    pub counted_on : (w : ℕ) → tally_of plan ≡ tally.Words w → Counted (need + w) (ring + 1)
-    counted_on w e = record {
+    pub counted_on : (plan : Option Planned) → Plans en ad ro ma p (λ x. one_dma x p a ring) (Ok plan) → (w : ℕ) → tally_of plan ≡ w → Counted (need + w) (ring + 1)
+    counted_on plan f w e = record {
       from = omega arith;
       to = omega arith;
       few = omega (arith, c.few, tally_few plan w e f.few);
       rest = λ z t q.
           let y = plan_words plan (one_dma (rows_of en ad ro ma) p a ring) (f.answers z t q) w e in
           c.rest z t q ∙ ap (λ k. counts (rows_of en ad ro ma) p a ring k need) left ∙ counts_step (rows_of en ad ro ma) p a ring (end - (ring + 1)) need y.0 y.1
-          ∙ ap (λ k. counts (rows_of en ad ro ma) p a k (end - (ring + 1)) (need + length (tunnels_words (Option-to_list y.0)))) (let v : suc ring ≡ ring + 1 = omega arith in v)
+          ∙ ap (λ k. counts (rows_of en ad ro ma) p a k (end - (ring + 1)) (need + length (tunnels_words (option_to_list y.0)))) (let v : suc ring ≡ ring + 1 = omega arith in v)
           ∙ ap (λ k. counts (rows_of en ad ro ma) p a (ring + 1) (end - (ring + 1)) (need + k)) (sym y.2);
     }
 
-    pub counted_refused : (r : Refusal) → tally_of plan ≡ tally.Refused r → Tallies en ad ro ma p a (end - 1) (tally.Refused r)
+    pub counted_refused : (r : Refusal) → Plans en ad ro ma p (λ x. one_dma x p a ring) (Err r) → Tallies en ad ro ma p a (end - 1) (Err r)
     unfolding tallied
-    counted_refused r e = record {
+    counted_refused r f = record {
       counts = λ z t q.
-          let y = plan_refused plan (one_dma (rows_of en ad ro ma) p a ring) (f.answers z t q) r e in
+          let y = plan_refused r (one_dma (rows_of en ad ro ma) p a ring) (f.answers z t q) in
           y.3 ℕ ∙ sym (c.rest z t q ∙ ap (λ k. counts (rows_of en ad ro ma) p a ring k need) left ∙ counts_refused (rows_of en ad ro ma) p a ring (end - (ring + 1)) need y.0 y.1 y.2);
     }
 
   -- a ring that has none is passed
   pub counted_past : (need ring : ℕ) → Counted need ring → ring < end → (idle : List ℕ) → Idle en ad ro ma p a idle → get_or idle (mark_of ring) 0 ≡ 1 → Counted need (ring + 1)
   unfolding tally_of
-  counted_past need ring c more idle i e = subst (λ n. Counted n (ring + 1)) (let y : need + 0 ≡ need = omega arith in y) (counted_on need ring c more planned.Absent (idle_plan en ad ro ma p a idle i ring e) 0 refl)
+  counted_past need ring c more idle i e = subst (λ n. Counted n (ring + 1)) (let y : need + 0 ≡ need = omega arith in y) (counted_on need ring c more None (idle_plan en ad ro ma p a idle i ring e) 0 refl)
 
   -- ---- the words
 
@@ -281,17 +275,17 @@ module _ (en ad ro ma : List ℕ) (p a end : ℕ) where
 
     -- the words of the next ring are put before those that are left
     module _ (r : ℕ) (out' : List ℕ) (w : RingPut en ad ro ma p a ring at out r out') (z : Sized en ro) (l : Tabled en ad ro) (q : p < 65536) (ts us vs : List Tunnel) (t : Option Tunnel) (n : length (tunnels_words ts) ≤ length out₀)
-        (whole : take at out ++ tunnels_words us ≡ tunnels_words ts) (e : us ≡ Option-to_list t ++ vs) (d : one_dma (rows_of en ad ro ma) p a ring ≡ value t) where
-      split : tunnels_words us ≡ tunnels_words (Option-to_list t) ++ tunnels_words vs
-      split = ap tunnels_words e ∙ tunnels_append (Option-to_list t) vs
+        (whole : take at out ++ tunnels_words us ≡ tunnels_words ts) (e : us ≡ option_to_list t ++ vs) (d : one_dma (rows_of en ad ro ma) p a ring ≡ value t) where
+      split : tunnels_words us ≡ tunnels_words (option_to_list t) ++ tunnels_words vs
+      split = ap tunnels_words e ∙ tunnels_append (option_to_list t) vs
 
-      room : at + length (tunnels_words (Option-to_list t)) ≤ length out
-      room = omega (arith, n, c.long, ap length whole, length-append (take at out) (tunnels_words us), length-take-le at out c.within, ap length split, length-append (tunnels_words (Option-to_list t)) (tunnels_words vs))
+      room : at + length (tunnels_words (option_to_list t)) ≤ length out
+      room = omega (arith, n, c.long, ap length whole, length-append (take at out) (tunnels_words us), length-take-le at out c.within, ap length split, length-append (tunnels_words (option_to_list t)) (tunnels_words vs))
 
       put_next : take r out' ++ tunnels_words vs ≡ tunnels_words ts
       put_next =
-          ap (λ l. l ++ tunnels_words vs) (wrote_front at (tunnels_words (Option-to_list t)) out r out' room (w.words z l q t d room))
-          ∙ append_assoc (take at out) (tunnels_words (Option-to_list t)) (tunnels_words vs) ∙ ap (λ l. take at out ++ l) (sym split) ∙ whole
+          ap (λ l. l ++ tunnels_words vs) (wrote_front at (tunnels_words (option_to_list t)) out r out' room (w.words z l q t d room))
+          ∙ append_assoc (take at out) (tunnels_words (option_to_list t)) (tunnels_words vs) ∙ ap (λ l. take at out ++ l) (sym split) ∙ whole
 
     pub putting_on : ring < end → (r : ℕ) (out' : List ℕ) → RingPut en ad ro ma p a ring at out r out' → Putting out₀ r (ring + 1) out'
     putting_on more r out' w = record {
@@ -306,7 +300,7 @@ module _ (en ad ro ma : List ℕ) (p a end : ℕ) where
             → (vs : List Tunnel) × (rings (rows_of en ad ro ma) p a (ring + 1) (end - (ring + 1)) ≡ value vs) × (take r out' ++ tunnels_words vs ≡ tunnels_words ts)
         go z l q ts n (us, e, whole) = next (rings_split (rows_of en ad ro ma) p a ring (end - (ring + 1)) us (ap (rings (rows_of en ad ro ma) p a ring) (let v : suc (end - (ring + 1)) ≡ end - ring = omega arith in v) ∙ e))
           where
-            next : (t : Option Tunnel) × (vs : List Tunnel) × (one_dma (rows_of en ad ro ma) p a ring ≡ value t) × (rings (rows_of en ad ro ma) p a (suc ring) (end - (ring + 1)) ≡ value vs) × (us ≡ Option-to_list t ++ vs)
+            next : (t : Option Tunnel) × (vs : List Tunnel) × (one_dma (rows_of en ad ro ma) p a ring ≡ value t) × (rings (rows_of en ad ro ma) p a (suc ring) (end - (ring + 1)) ≡ value vs) × (us ≡ option_to_list t ++ vs)
                 → (vs : List Tunnel) × (rings (rows_of en ad ro ma) p a (ring + 1) (end - (ring + 1)) ≡ value vs) × (take r out' ++ tunnels_words vs ≡ tunnels_words ts)
             next (t, vs, d, g, h) = (
               vs,

@@ -3,7 +3,7 @@ use Prim.Native.Nat.{ℕ, zero, suc, ◌+◌, ◌-◌, ◌≤◌}
 use mathlib.Core.Path.{◌≡◌, refl, sym, ap, ◌∙◌, subst}
 use mathlib.Core.Bool.{Bool, true, false, cond}
 use mathlib.Core.List.{List, [], ◌∷◌}
-use mathlib.Core.Option.{Option, none, some}
+use Rattle.std.specs.Prelude.{Option, None, Some}
 use native.Mathlib.Omega.{arith}
 use lib.ListN.{get_or}
 use Rattle.refusal.specs.Outcome.{Outcome, refused, value, bind}
@@ -22,11 +22,11 @@ use Rattle.discovery.specs.Work.{AllWalk, Walks}
 
 stand_same : (s t : Stand) (o : Option EntryRow) → found {E = End} s o ≡ stand t → s ≡ t
 unfolding found
-stand_same s t none e = absurd (let z : ◌≡◌ {A = ℕ} 0 1 = cc in omega arith)
-stand_same s t (some h) e = cc
+stand_same s t None e = absurd (let z : ◌≡◌ {A = ℕ} 0 1 = cc in omega arith)
+stand_same s t (Some h) e = cc
 
 -- a path has a hop
-pub starts : (x : Rows) (s : Stand) (hs : List EntryRow) → walk_from x s ≡ value (some hs) → start_of hs ≡ s
+pub starts : (x : Rows) (s : Stand) (hs : List EntryRow) → walk_from x s ≡ value (Some hs) → start_of hs ≡ s
 unfolding start_of walk_n arrive
 starts x s [] e = absurd (let h = hopped x s [] e in omega (arith, h.one, h.long))
 starts x s (e ∷ es) q =
@@ -34,7 +34,7 @@ starts x s (e ∷ es) q =
     let r = path_rule x s h.count h.one h.ends in
     sym (stand_same s (stand_of e) ((walk_on x).hop s) (r.stands e 0 h.one ∙ ap (λ l. stand (stand_of (get_or l 0 e))) h.hops))
 
-pub walked : (x : Rows) (s : Stand) (hs : List EntryRow) → walk_from x s ≡ value (some hs) → walk_from x (start_of hs) ≡ value (some hs)
+pub walked : (x : Rows) (s : Stand) (hs : List EntryRow) → walk_from x s ≡ value (Some hs) → walk_from x (start_of hs) ≡ value (Some hs)
 walked x s hs e = ap (walk_from x) (starts x s hs e) ∙ e
 
 -- ---- what holds of every value of an outcome
@@ -52,13 +52,13 @@ module _ {A : Type 0} (P : A → Type 0) where
   of_bind (value b) f h a e = h b refl a e
 
 -- a walk that must give a path
-of_needed : (x : Rows) (s : Stand) (f : List EntryRow → Outcome (Option Tunnel)) → ((hs : List EntryRow) → walk_from x (start_of hs) ≡ value (some hs) → Of (Walks x) (f hs)) → Of (Walks x) (needed x s f)
+of_needed : (x : Rows) (s : Stand) (f : List EntryRow → Outcome (Option Tunnel)) → ((hs : List EntryRow) → walk_from x (start_of hs) ≡ value (Some hs) → Of (Walks x) (f hs)) → Of (Walks x) (needed x s f)
 unfolding needed or_absent Walks
 of_needed x s f h = of_bind (Walks x) (walk_from x s) _ go
   where
     go : (o : Option (List EntryRow)) → walk_from x s ≡ value o → Of (Walks x) (or_absent o f)
-    go none e = of_value (Walks x) none (omega arith)
-    go (some hs) e = h hs (walked x s hs e)
+    go None e = of_value (Walks x) None (omega arith)
+    go (Some hs) e = h hs (walked x s hs e)
 
 -- ---- each kind of tunnel
 
@@ -73,7 +73,7 @@ display_port_walks x p a = of_needed x _ _ (λ vs v. of_needed x _ _ (λ ts t. o
 -- ---- receive paths
 
 unfoldable Received : Rows → Receive → Type 0
-Received x (received hs) = walk_from x (start_of hs) ≡ value (some hs)
+Received x (received hs) = walk_from x (start_of hs) ≡ value (Some hs)
 Received x nothing = 0 ≤ 0
 Received x lost = 0 ≤ 0
 
@@ -83,8 +83,8 @@ among_hops_walks x ring q n h zero = of_value (Received x) nothing (omega arith)
 among_hops_walks x ring q n h (suc k) = of_bind (Received x) (walk_from x (at q n h)) _ (λ o e. go o e (among_hops_walks x ring q n (suc h) k))
   where
     go : (o : Option (List EntryRow)) → walk_from x (at q n h) ≡ value o → Of (Received x) (among_hops x ring q n (suc h) k) → Of (Received x) (or_rest ring (among_hops x ring q n (suc h) k) o)
-    go none e rest = rest
-    go (some hs) e rest = pick (uses_ring ring hs)
+    go None e rest = rest
+    go (Some hs) e rest = pick (uses_ring ring hs)
       where
         pick : (b : Bool) → Of (Received x) (cond b (value (received hs)) (among_hops x ring q n (suc h) k))
         pick true = of_value (Received x) (received hs) (walked x (at q n h) hs e)
@@ -107,12 +107,12 @@ among_devices_walks x ring p (d ∷ ds) = of_bind (Received x) (bind (lane_of x 
 
 ring_walks : (x : Rows) (s : Stand) (tx : Option (List EntryRow)) (r : Receive) → walk_from x s ≡ value tx → Received x r → Walks x (ring_tunnel tx r)
 unfolding ring_tunnel with_paths tx_path Walks AllWalk Received path
-ring_walks x s none (received hs) e f = (f, omega arith)
-ring_walks x s none nothing e f = omega arith
-ring_walks x s none lost e f = omega arith
-ring_walks x s (some ts) (received hs) e f = (walked x s ts e, (f, omega arith))
-ring_walks x s (some ts) nothing e f = (walked x s ts e, omega arith)
-ring_walks x s (some ts) lost e f = omega arith
+ring_walks x s None (received hs) e f = (f, omega arith)
+ring_walks x s None nothing e f = omega arith
+ring_walks x s None lost e f = omega arith
+ring_walks x s (Some ts) (received hs) e f = (walked x s ts e, (f, omega arith))
+ring_walks x s (Some ts) nothing e f = (walked x s ts e, omega arith)
+ring_walks x s (Some ts) lost e f = omega arith
 
 pub one_dma_walks : (x : Rows) (p a ring : ℕ) → Of (Walks x) (one_dma x p a ring)
 unfolding one_dma receive

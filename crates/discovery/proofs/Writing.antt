@@ -1,9 +1,10 @@
 -- Laws of words put one after another: a path, a tunnel. Assumes nothing.
+use Rattle.std.specs.Option.{option_to_list}
 use Prim.Native.Nat.{ℕ, suc, ◌+◌, ◌-◌, ◌*◌, ◌≤◌, ◌<◌}
 use mathlib.Core.Path.{◌≡◌, refl, sym, ap, ◌∙◌, subst}
 use mathlib.Core.Bool.{Bool, true, false, cond}
-use mathlib.Core.List.{List, [], ◌∷◌, ◌++◌, map, append_assoc, append-nil, Option-to_list}
-use mathlib.Core.Option.{Option, none, some}
+use mathlib.Core.List.{List, [], ◌∷◌, ◌++◌, map, append_assoc, append-nil}
+use Rattle.std.specs.Prelude.{Option, None, Some, Result, Ok, Err}
 use native.Mathlib.Omega.{arith}
 use lib.ListN.{length, take, drop, set, length-map, length-append, length-drop, length-set, take-append-drop, drop_of_length-le}
 use lib.Seq.{length-take-le, take_all, take_at, drop_at, drop-drop, set_split}
@@ -19,10 +20,10 @@ use Rattle.path.specs.Put.{Sized, WalkPut}
 use Rattle.path.proofs.Writing.{refused_as_lem}
 use Rattle.tunnel.specs.Tunnels.{Path, Tunnel}
 use Rattle.tunnel.specs.Words.{closed, paths_words, tunnel_word, tunnel_words, tunnels_words}
-use Rattle.tunnel.specs.Plans.{From, Plan, from_of, from_by, plan_of, plan_if, planned_outcome, paths_by}
+use Rattle.tunnel.specs.Plans.{From, Plan, from_of, from_by, plan_of, plan_if, planned_as, planned_outcome, paths_by}
 use Rattle.tunnel.specs.declared.Start.{Start}
-use Rattle.tunnel.specs.declared.Planned.{Planned}
-use Rattle.tunnel.specs.declared.Planned.TheVariants as planned
+use Rattle.tunnel.specs.declared.Plan.{Plan as Planned}
+use Rattle.refusal.specs.declared.Refusal.{Refusal}
 use Rattle.discovery.specs.Work.{Wrote, PathPut, AllWalk, Walks, PlanPut}
 
 -- ---- words put one after another
@@ -111,39 +112,38 @@ module _ (en ad ro ma : List ℕ) where
       wrote_then at (path_words p.name p.hops) out m mid (omega (arith, n)) w (paths_words ps) r out' (laid_words z t ps a.1 m mid r out' l (omega (arith, n, w.next, f.long)))
 
   -- no tunnel is planned, or there is no room for it
-  pub plan_not_put : (plan : Planned) (at : ℕ) (out : List ℕ) → at ≤ length out → ((t : Tunnel) → planned_outcome plan ≡ value (some (plan_of t)) → at < length out → ⊥) → PlanPut en ad ro ma plan at out at out
-  unfolding plan_if tunnels_words tunnel_words Option-to_list
+  pub plan_not_put : (plan : Result (Option Planned) Refusal) (at : ℕ) (out : List ℕ) → at ≤ length out → ((t : Tunnel) → planned_outcome plan ≡ value (Some (plan_of t)) → at < length out → ⊥) → PlanPut en ad ro ma plan at out at out
+  unfolding plan_if tunnels_words tunnel_words
   plan_not_put plan at out room never = record { within = room; long = refl; words = λ z t o e w fits. go o e fits }
     where
-      go : (o : Option Tunnel) → planned_outcome plan ≡ value (plan_if o) → at + length (tunnels_words (Option-to_list o)) ≤ length out → Wrote at (tunnels_words (Option-to_list o)) out at out
-      go none e fits = wrote_nothing at out
-      go (some t) e fits = absurd (never t e (omega (arith, length-append (tunnel_words t) [])))
+      go : (o : Option Tunnel) → planned_outcome plan ≡ value (plan_if o) → at + length (tunnels_words (option_to_list o)) ≤ length out → Wrote at (tunnels_words (option_to_list o)) out at out
+      go None e fits = wrote_nothing at out
+      go (Some t) e fits = absurd (never t e (omega (arith, length-append (tunnel_words t) [])))
 
-  pub plan_none : (plan : Planned) (at : ℕ) (out : List ℕ) → at ≤ length out → ((k : TunnelType) (c : Bool) (w n : ℕ) (a b d : Start) → plan ≡ planned.Tunnel k c w n a b d → ⊥) → PlanPut en ad ro ma plan at out at out
+  pub plan_none : (plan : Option Planned) (at : ℕ) (out : List ℕ) → at ≤ length out → plan ≡ None → PlanPut en ad ro ma (Ok plan) at out at out
   unfolding planned_outcome
-  plan_none plan at out room k = plan_not_put plan at out room (λ t e l. go plan k (plan_of t) e)
-    where
-      go : (q : Planned) → ((k : TunnelType) (c : Bool) (w n : ℕ) (a b d : Start) → q ≡ planned.Tunnel k c w n a b d → ⊥) → (t : Plan) → planned_outcome q ≡ value (some t) → ⊥
-      go (planned.Tunnel k c w n a b d) o t e = o k c w n a b d refl
-      go planned.Absent o t e = let z : ◌≡◌ {A = ℕ} 0 1 = cc in omega arith
-      go (planned.Refused r) o t e = let w = refused_as_lem (value (some t)) r e in let v = w.2 in let z : ◌≡◌ {A = ℕ} 0 1 = cc in omega arith
+  plan_none plan at out room k = plan_not_put (Ok plan) at out room (λ t e l. let w = sym (ap (λ z. planned_outcome (Ok z)) k) ∙ e in let z : ◌≡◌ {A = ℕ} 0 1 = cc in omega arith)
 
-  pub plan_full : (plan : Planned) (at : ℕ) (out : List ℕ) → at ≤ length out → length out ≤ at → PlanPut en ad ro ma plan at out at out
+  pub plan_unput : (r : Refusal) (at : ℕ) (out : List ℕ) → at ≤ length out → PlanPut en ad ro ma (Err r) at out at out
+  unfolding planned_outcome
+  plan_unput r at out room = plan_not_put (Err r) at out room (λ t e l. let w = refused_as_lem (value (Some (plan_of t))) r e in let v = w.2 in let z : ◌≡◌ {A = ℕ} 0 1 = cc in omega arith)
+
+  pub plan_full : (plan : Result (Option Planned) Refusal) (at : ℕ) (out : List ℕ) → at ≤ length out → length out ≤ at → PlanPut en ad ro ma plan at out at out
   plan_full plan at out room l = plan_not_put plan at out room (λ t e k. omega arith)
 
-  module _ (plan : Planned) (k : TunnelType) (c : Bool) (w n : ℕ) (a b d : Start) (is-plan : plan ≡ planned.Tunnel k c w n a b d) (at : ℕ) (out : List ℕ) (room : at < length out) (word : ℕ)
+  module _ (plan : Result (Option Planned) Refusal) (k : TunnelType) (c : Bool) (w n : ℕ) (a b d : Start) (is-plan : plan ≡ Ok (Some (planned_as k c w n a b d))) (at : ℕ) (out : List ℕ) (room : at < length out) (word : ℕ)
       (is : word ≡ 8 * 268435456 + cond c 65536 0 + n * 256 + tunnel_number k) where
     abbrev three : List From
     three = from_by a ∷ from_by b ∷ from_by d ∷ []
 
     -- the paths that are planned
     plan_put : (r : ℕ) (out' : List ℕ) → r ≤ length out → length out' ≡ length out → (fs : List From) → take n three ≡ fs → n ≡ length fs → Laid fs (at + 1) (set out at word) r out' → PlanPut en ad ro ma plan at out r out'
-    unfolding planned_outcome plan_if plan_of tunnels_words tunnel_words tunnel_word Walks Option-to_list
+    unfolding planned_outcome plan_if plan_of tunnels_words tunnel_words tunnel_word Walks
     plan_put r out' within long fs e l laid = record { within = within; long = long; words = λ z t o q v fits. go z t o (sym (ap planned_outcome is-plan) ∙ q) v fits }
       where
-        go : Sized en ro → Tabled en ad ro → (o : Option Tunnel) → planned_outcome (planned.Tunnel k c w n a b d) ≡ value (plan_if o) → Walks (rows_of en ad ro ma) o → at + length (tunnels_words (Option-to_list o)) ≤ length out → Wrote at (tunnels_words (Option-to_list o)) out r out'
-        go z t none q v fits = absurd (let y : ◌≡◌ {A = ℕ} 0 1 = cc in omega arith)
-        go z t (some u) q v fits =
+        go : Sized en ro → Tabled en ad ro → (o : Option Tunnel) → planned_outcome (Ok (Some (planned_as k c w n a b d))) ≡ value (plan_if o) → Walks (rows_of en ad ro ma) o → at + length (tunnels_words (option_to_list o)) ≤ length out → Wrote at (tunnels_words (option_to_list o)) out r out'
+        go z t None q v fits = absurd (let y : ◌≡◌ {A = ℕ} 0 1 = cc in omega arith)
+        go z t (Some u) q v fits =
             let plan-is : record { type = k; closed = c; words = w; starts = take n three } ≡ plan_of u = cc in
             let paths : fs ≡ map from_of u.paths = sym e ∙ ap (λ (y : Plan). y.starts) plan-is in
             let head : word ≡ tunnel_word u = is

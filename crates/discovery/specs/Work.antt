@@ -1,12 +1,12 @@
 -- For the contracts of private functions only. No promise to a caller rests on these. Assumes nothing.
-use Rattle.std.specs.Prelude.{ℕ, ◌+◌, ◌/◌, ◌%◌, ◌≤◌, ◌<◌, ◌≡◌, ◌⊎◌, Bool, false, cond, ◌||◌, ltb, eqb, length, get_or, take, drop}
-use mathlib.Core.List.{List, [], ◌∷◌, ◌++◌, map, Option-to_list}
-use Rattle.std.proofs.Math.Option.{Option, none, some}
+use Rattle.std.specs.Option.{option_to_list}
+use Rattle.std.specs.Prelude.{ℕ, ◌+◌, ◌/◌, ◌%◌, ◌≤◌, ◌<◌, ◌≡◌, ◌⊎◌, Bool, false, cond, ◌||◌, ltb, eqb, length, get_or, take, drop, Option, None, Some, Err, Ok, Result}
+use mathlib.Core.List.{List, [], ◌∷◌, ◌++◌, map}
 use Rattle.refusal.specs.Outcome.{Outcome, value, bind}
 use Rattle.usb4.specs.declared.TunnelType.TheVariants as tunnel_type
 use Rattle.tables.specs.Rows.{EntryRow, Rows, entry_in}
 use Rattle.tables.specs.Packed.{entries_in}
-use Rattle.load.specs.Answers.{refused_by}
+use Rattle.refusal.specs.Refusal.{refused_by}
 use Rattle.walk.specs.Rule.{walk_from}
 use Rattle.walk.specs.Tables.{rows_of, Tabled}
 use Rattle.path.specs.Words.{path_words}
@@ -17,13 +17,10 @@ use Rattle.receive.specs.declared.Received.{Received}
 use Rattle.tunnel.specs.Tunnels.{Path, Tunnel, down_and_up, display_port, one_dma, rings, or_none, alone}
 use Rattle.tunnel.specs.Words.{tunnels_words}
 use Rattle.tunnel.specs.Plans.{From, start_of, plan_if, planned_outcome}
-use Rattle.tunnel.specs.declared.Planned.{Planned}
-use Rattle.tunnel.specs.declared.Planned.TheVariants as planned
-use Rattle.discovery.specs.Answers.{in_room, output_by, tunnels_outcome, is_list}
-use Rattle.discovery.specs.declared.TunnelsAnswer.{TunnelsAnswer}
-use Rattle.discovery.specs.declared.TunnelsAnswer.TheVariants as answer
-use Rattle.discovery.specs.declared.Tally.{Tally}
-use Rattle.discovery.specs.declared.Tally.TheVariants as tally
+use Rattle.tunnel.specs.declared.Plan.{Plan as Planned}
+use Rattle.discovery.specs.Answers.{in_room, output_by, is_list}
+use Rattle.refusal.specs.Refusal.{outcome}
+use Rattle.refusal.specs.declared.Refusal.{Refusal}
 
 -- words put from a place on, and the place after them
 pub record Wrote (at : ℕ) (ws out : List ℕ) (r : ℕ) (out' : List ℕ) : Type 0 where
@@ -34,32 +31,32 @@ pub record Wrote (at : ℕ) (ws out : List ℕ) (r : ℕ) (out' : List ℕ) : Ty
 pub record PathPut (en ad ro ma : List ℕ) (f : From) (at : ℕ) (out : List ℕ) (r : ℕ) (out' : List ℕ) : Type 0 where
   pub within : r ≤ length out
   pub long : length out' ≡ length out
-  pub words : Sized en ro → Tabled en ad ro → (hs : List EntryRow) → walk_from (rows_of en ad ro ma) f.stand ≡ value (some hs) → at + length (path_words f.name hs) ≤ length out → Wrote at (path_words f.name hs) out r out'
+  pub words : Sized en ro → Tabled en ad ro → (hs : List EntryRow) → walk_from (rows_of en ad ro ma) f.stand ≡ value (Some hs) → at + length (path_words f.name hs) ≤ length out → Wrote at (path_words f.name hs) out r out'
 
 -- each path is the walk from where its first hop stands
 unfoldable pub AllWalk : Rows → List Path → Type 0
 AllWalk x [] = 0 ≤ 0
-AllWalk x (p ∷ ps) = (walk_from x (start_of p.hops) ≡ value (some p.hops)) × AllWalk x ps
+AllWalk x (p ∷ ps) = (walk_from x (start_of p.hops) ≡ value (Some p.hops)) × AllWalk x ps
 
 unfoldable pub Walks : Rows → Option Tunnel → Type 0
-Walks x none = 0 ≤ 0
-Walks x (some t) = AllWalk x t.paths
+Walks x None = 0 ≤ 0
+Walks x (Some t) = AllWalk x t.paths
 
 -- the tunnel that is planned, if there is one
-pub record PlanPut (en ad ro ma : List ℕ) (plan : Planned) (at : ℕ) (out : List ℕ) (r : ℕ) (out' : List ℕ) : Type 0 where
+pub record PlanPut (en ad ro ma : List ℕ) (plan : Result (Option Planned) Refusal) (at : ℕ) (out : List ℕ) (r : ℕ) (out' : List ℕ) : Type 0 where
   pub within : r ≤ length out
   pub long : length out' ≡ length out
-  pub words : Sized en ro → Tabled en ad ro → (o : Option Tunnel) → planned_outcome plan ≡ value (plan_if o) → Walks (rows_of en ad ro ma) o → at + length (tunnels_words (Option-to_list o)) ≤ length out
-      → Wrote at (tunnels_words (Option-to_list o)) out r out'
+  pub words : Sized en ro → Tabled en ad ro → (o : Option Tunnel) → planned_outcome plan ≡ value (plan_if o) → Walks (rows_of en ad ro ma) o → at + length (tunnels_words (option_to_list o)) ≤ length out
+      → Wrote at (tunnels_words (option_to_list o)) out r out'
 
-unfoldable pub tally_of : Planned → Tally
-tally_of (planned.Tunnel t c w n a b d) = tally.Words w
-tally_of planned.Absent = tally.Words 0
-tally_of (planned.Refused r) = tally.Refused r
+-- the words of a plan; none has none
+unfoldable pub tally_of : Option Planned → ℕ
+tally_of (Some p) = p.words
+tally_of None = 0
 
-unfoldable pub tallied : Tally → Outcome ℕ
-tallied (tally.Words n) = value n
-tallied (tally.Refused r) = refused_by r
+unfoldable pub tallied : Result ℕ Refusal → Outcome ℕ
+tallied (Ok n) = value n
+tallied (Err r) = refused_by r
 
 -- where rings end: no entry has a HopID above 65,535
 unfoldable pub rings_end : ℕ → ℕ
@@ -75,7 +72,7 @@ pub record Marked (ring words : ℕ) (old new : List ℕ) : Type 0 where
 
 -- a ring that is marked has no tunnel
 pub record Idle (en ad ro ma : List ℕ) (p a : ℕ) (idle : List ℕ) : Type 0 where
-  pub rests : Sized en ro → Tabled en ad ro → p < 65536 → (j : ℕ) → get_or idle (mark_of j) 0 ≡ 1 → one_dma (rows_of en ad ro ma) p a j ≡ value none
+  pub rests : Sized en ro → Tabled en ad ro → p < 65536 → (j : ℕ) → get_or idle (mark_of j) 0 ≡ 1 → one_dma (rows_of en ad ro ma) p a j ≡ value None
 
 -- a number is in a list
 unfoldable pub among : ℕ → List ℕ → Bool
@@ -93,7 +90,7 @@ pub record Quiet (en ad ro ma : List ℕ) : Type 0 where
 -- no entry leaves by a ring, and none stands at it
 pub record Unasked (en : List ℕ) (p a ring : ℕ) : Type 0 where
   pub unused : among ring (out_hops en) ≡ false
-  pub missing : p < 65536 → entry_in (entries_in en) p a ring ≡ none
+  pub missing : p < 65536 → entry_in (entries_in en) p a ring ≡ None
 
 -- there is no mark at a place, and no other mark is new
 pub record Unmarked (i : ℕ) (old new : List ℕ) : Type 0 where
@@ -108,12 +105,12 @@ pub record Resting (en : List ℕ) (p a : ℕ) (idle : List ℕ) : Type 0 where
   pub rests : (j : ℕ) → get_or idle (mark_of j) 0 ≡ 1 → Unasked en p a j
 
 -- how many notes of a search there are; 2,048 where a path is found, or there are that many
-pub record Known (found : Received) (noted r : ℕ) : Type 0 where
+pub record Known (found : Result Received Refusal) (noted r : ℕ) : Type 0 where
   pub within : r ≤ 2048
   pub known : r < 2048 → (r ≡ noted) × (is_path found ≡ false)
 
 -- fewer than 2,048 notes, with what the search came to, tell of all rings
-pub record Told (en ad ro ma notes : List ℕ) (last : Received) : Type 0 where
+pub record Told (en ad ro ma notes : List ℕ) (last : Result Received Refusal) : Type 0 where
   pub tells : length notes < 2048 → Foretells en ad ro ma notes last
   pub few : hops_by last ≤ length en
 
@@ -123,12 +120,12 @@ pub record NoteFound (notes : List ℕ) (ring r : ℕ) : Type 0 where
   pub none_there : length notes ≤ r → (x : Rows) (rest : Outcome Said) → by_notes x ring notes rest ≡ rest
 
 -- what is said of a note's path
-pub record NotePath (en ad ro ma : List ℕ) (ring note : ℕ) (r : Received) : Type 0 where
+pub record NotePath (en ad ro ma : List ℕ) (ring note : ℕ) (r : Result Received Refusal) : Type 0 where
   pub says : Tabled en ad ro → received_outcome ring r ≡ walk_said (rows_of en ad ro ma) ring (note_stand note)
   pub few : hops_by r ≤ length en
 
 -- the words of the tunnels of k rings from 1 on
-pub record Tallies (en ad ro ma : List ℕ) (p a k : ℕ) (r : Tally) : Type 0 where
+pub record Tallies (en ad ro ma : List ℕ) (p a k : ℕ) (r : Result ℕ Refusal) : Type 0 where
   pub counts : Sized en ro → Tabled en ad ro → p < 65536 → tallied r ≡ bind (rings (rows_of en ad ro ma) p a 1 k) (λ ts. value (length (tunnels_words ts)))
 
 -- the words of the tunnels of k rings from 1 on stand at the front, where there is room for them
@@ -139,8 +136,8 @@ pub record Drafted (en ad ro ma : List ℕ) (p a k : ℕ) (draft : List ℕ) : T
 pub record RingPut (en ad ro ma : List ℕ) (p a ring at : ℕ) (out : List ℕ) (r : ℕ) (out' : List ℕ) : Type 0 where
   pub within : r ≤ length out
   pub long : length out' ≡ length out
-  pub words : Sized en ro → Tabled en ad ro → p < 65536 → (o : Option Tunnel) → one_dma (rows_of en ad ro ma) p a ring ≡ value o → at + length (tunnels_words (Option-to_list o)) ≤ length out
-      → Wrote at (tunnels_words (Option-to_list o)) out r out'
+  pub words : Sized en ro → Tabled en ad ro → p < 65536 → (o : Option Tunnel) → one_dma (rows_of en ad ro ma) p a ring ≡ value o → at + length (tunnels_words (option_to_list o)) ≤ length out
+      → Wrote at (tunnels_words (option_to_list o)) out r out'
 
 -- an output as long as these words
 pub record RingsPut (en ad ro ma : List ℕ) (p a k : ℕ) (out out' : List ℕ) : Type 0 where
@@ -148,30 +145,30 @@ pub record RingsPut (en ad ro ma : List ℕ) (p a k : ℕ) (out out' : List ℕ)
   pub words : Sized en ro → Tabled en ad ro → p < 65536 → (ts : List Tunnel) → rings (rows_of en ad ro ma) p a 1 k ≡ value ts → length out ≡ length (tunnels_words ts) → out' ≡ tunnels_words ts
 
 -- what is answered and written follows what is discovered
-pub record Follows (o : Outcome (Option (List Tunnel))) (out : List ℕ) (r : TunnelsAnswer) (out' : List ℕ) : Type 0 where
-  pub answers : tunnels_outcome r ≡ bind o (in_room (length out))
+pub record Follows (o : Outcome (Option (List Tunnel))) (out : List ℕ) (r : Result (Option ℕ) Refusal) (out' : List ℕ) : Type 0 where
+  pub answers : outcome r ≡ bind o (in_room (length out))
   pub writes : out' ≡ output_by o out
 
 -- what holds on any tables
-pub record Free (out : List ℕ) (r : TunnelsAnswer) (out' : List ℕ) : Type 0 where
+pub record Free (out : List ℕ) (r : Result (Option ℕ) Refusal) (out' : List ℕ) : Type 0 where
   pub kept : is_list r ≡ false → out' ≡ out
-  pub fits : (n : ℕ) → r ≡ answer.Words n → n ≤ length out
-  pub tail : (n : ℕ) → r ≡ answer.Words n → drop n out' ≡ drop n out
+  pub fits : (n : ℕ) → r ≡ Ok (Some n) → n ≤ length out
+  pub tail : (n : ℕ) → r ≡ Ok (Some n) → drop n out' ≡ drop n out
   pub long : length out' ≡ length out
 
 -- a plan's tunnel, whatever it is the plan of
-pub record OneAnswered (en ad ro ma : List ℕ) (plan : Planned) (out : List ℕ) (r : TunnelsAnswer) (out' : List ℕ) : Type 0 where
+pub record OneAnswered (en ad ro ma : List ℕ) (plan : Result (Option Planned) Refusal) (out : List ℕ) (r : Result (Option ℕ) Refusal) (out' : List ℕ) : Type 0 where
   pub follows : Sized en ro → Tabled en ad ro → (o : Outcome (Option Tunnel)) → planned_outcome plan ≡ bind o (λ t. value (plan_if t)) → ((t : Option Tunnel) → o ≡ value t → Walks (rows_of en ad ro ma) t) → Follows (bind o alone) out r out'
   pub free : Free out r out'
 
 -- what f discovers in rows, for a place that a key has room for
-pub record Answered (en ad ro ma : List ℕ) (p : ℕ) (f : Rows → Outcome (Option (List Tunnel))) (out : List ℕ) (r : TunnelsAnswer) (out' : List ℕ) : Type 0 where
+pub record Answered (en ad ro ma : List ℕ) (p : ℕ) (f : Rows → Outcome (Option (List Tunnel))) (out : List ℕ) (r : Result (Option ℕ) Refusal) (out' : List ℕ) : Type 0 where
   pub follows : Sized en ro → Tabled en ad ro → p < 65536 → Follows (f (rows_of en ad ro ma)) out r out'
   pub free : Free out r out'
 
 -- the tunnels of k rings from 1 on, as a list that is there
 abbrev pub ring_list : Rows → ℕ → ℕ → ℕ → Outcome (Option (List Tunnel))
-ring_list x p a k = bind (rings x p a 1 k) (λ ts. value (some ts))
+ring_list x p a k = bind (rings x p a 1 k) (λ ts. value (Some ts))
 
 -- the rings of a host interface, by its largest HopID
 unfoldable pub dma_by : Rows → ℕ → ℕ → Outcome (Option ℕ) → Outcome (Option (List Tunnel))
@@ -179,4 +176,4 @@ dma_by x p a o = bind o (λ m. or_none m (λ hi. ring_list x p a hi))
 
 -- the tunnel of an adapter that has one at most, by the number of its kind
 unfoldable pub tunnel_by : Rows → ℕ → ℕ → ℕ → Outcome (Option Tunnel)
-tunnel_by x p a n = cond (eqb n 4) (display_port x p a) (cond (eqb n 6) (down_and_up x tunnel_type.Pcie 5 6 p a) (cond (eqb n 8) (down_and_up x tunnel_type.Usb3 0 1 p a) (value none)))
+tunnel_by x p a n = cond (eqb n 4) (display_port x p a) (cond (eqb n 6) (down_and_up x tunnel_type.Pcie 5 6 p a) (cond (eqb n 8) (down_and_up x tunnel_type.Usb3 0 1 p a) (value None)))

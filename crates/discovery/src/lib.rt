@@ -1,7 +1,7 @@
 // Discovery (module 7, `Tunnel::discover`) on the tables that a survey is loaded to: a tally first, and with it a draft of the words; then the words.
 #![tactic(auto)]
 
-ghost use Rattle.std.specs.Prelude.{ℕ, ◌+◌, ◌*◌, ◌-◌, ◌≤◌, ◌<◌, ◌≡◌, true, cond, List, length, get_or};
+ghost use Rattle.std.specs.Prelude.{ℕ, ◌+◌, ◌*◌, ◌-◌, ◌≤◌, ◌<◌, ◌≡◌, true, cond, List, length, get_or, Ok};
 ghost use Rattle.usb4.specs.Numbers.{tunnel_number};
 ghost use Rattle.adapter.specs.Adapter.{facts_row, adapter_site, max_hop_outcome};
 ghost use Rattle.receive.specs.Tables.{Receives};
@@ -10,30 +10,11 @@ ghost use Rattle.tunnel.specs.Plans.{Plans, from_by, paths_by};
 ghost use Rattle.discovery.specs.Tables.{Discovered};
 ghost use Rattle.discovery.specs.Work.{PathPut, PlanPut, Marked, Unmarked, Spared, Resting, Idle, Quiet, mark_of, Known, Told, NoteFound, NotePath, among, out_hops, Drafted, Tallies, RingPut, RingsPut, OneAnswered, Answered, ring_list, dma_by, tunnel_by, tally_of, rings_end};
 
-use adapter::{Facts, MaxHop};
-use load::Refusal;
-use receive::Received;
-use refusal::{Fault, Site};
-use tables::{AdapterFound, DeviceFound};
-use tunnel::{Planned, Start};
+use adapter::Facts;
+use receive::{ReceivePath, Received};
+use refusal::{Fault, FieldError, Refusal, Site};
+use tunnel::{Plan, Start};
 use usb4::TunnelType;
-use walk::Walked;
-
-// A list of tunnels with its number of words, no list, the words needed (2), or another refusal.
-#[derive(Clone, Copy)]
-pub enum TunnelsAnswer {
-    Words(usize),
-    Absent,
-    Short(usize),
-    Refused(Refusal),
-}
-
-// The words that the tunnels of rings need, or what refuses them.
-#[derive(Clone, Copy)]
-pub enum Tally {
-    Words(usize),
-    Refused(Refusal),
-}
 
 // No survey loads to more.
 const MOST_ENTRIES: usize = 4096;
@@ -87,59 +68,42 @@ fn put_plan(
     adapters: &[u64],
     routes: &[u64],
     marks: &[u64],
-    plan: Planned,
+    plan: Option<Plan>,
     output: &mut [u32],
     at: usize,
 ) -> usize
-    requires { (at ≤ length output.old) × (paths_by plan ≤ 3) }
-    ensures { PlanPut entries.now adapters.now routes.now marks.now plan at output.old result output.new }
+    requires { (at ≤ length output.old) × (paths_by (Ok plan) ≤ 3) }
+    ensures { PlanPut entries.now adapters.now routes.now marks.now (Ok plan) at output.old result output.new }
 {
-    let Planned::Tunnel {
-        kind,
-        closed,
-        words: _,
-        paths,
-        first,
-        second,
-        third,
-    } = plan
-    else {
+    let Some(p) = plan else {
         return at;
     };
+    let paths = p.paths;
     if output.len() <= at {
         return at;
     }
-    output[at] = tunnel_word(kind, closed, paths);
+    output[at] = tunnel_word(p.kind, p.closed, paths);
     if paths < 1 {
         return at + 1;
     }
-    let a = put_start(entries, adapters, routes, marks, first, output, at + 1);
+    let a = put_start(entries, adapters, routes, marks, p.first, output, at + 1);
     if paths < 2 {
         return a;
     }
-    let b = put_start(entries, adapters, routes, marks, second, output, a);
+    let b = put_start(entries, adapters, routes, marks, p.second, output, a);
     if paths < 3 {
         return b;
     }
-    put_start(entries, adapters, routes, marks, third, output, b)
+    put_start(entries, adapters, routes, marks, p.third, output, b)
 }
 
 // The words of a planned tunnel.
-fn tally_plan(plan: Planned) -> Tally
+fn tally_plan(plan: Option<Plan>) -> usize
     ensures { result ≡ tally_of plan }
 {
     match plan {
-        Planned::Refused(refusal) => Tally::Refused(refusal),
-        Planned::Absent => Tally::Words(0),
-        Planned::Tunnel {
-            kind: _,
-            closed: _,
-            words,
-            paths: _,
-            first: _,
-            second: _,
-            third: _,
-        } => Tally::Words(words),
+        None => 0,
+        Some(p) => p.words,
     }
 }
 
@@ -169,24 +133,17 @@ fn leaves_by(entries: &[u64], hop: u16) -> bool
 }
 
 // Says yes only where the search for a receive path is not refused for a ring that no entry leaves by. It goes alike for all of these, so one is asked: 65,535, which no ring of a survey by our descriptions is.
-fn is_quiet(entries: &[u64], found: Received) -> bool
+fn is_quiet(entries: &[u64], found: Result<Received, Refusal>) -> bool
     ensures { (ad ro ma : List ℕ) → Receives entries.now ad ro ma 65535 found → result ≡ true → Quiet entries.now ad ro ma }
 {
     if leaves_by(entries, 65535) {
         return false;
     }
     match found {
-        Received::Nothing => true,
-        Received::Lost => true,
-        Received::Refused(_) => false,
-        Received::Path {
-            place: _,
-            adapter: _,
-            hop: _,
-            hops: _,
-            out_place: _,
-            out_adapter: _,
-        } => false,
+        Ok(Received::Nothing) => true,
+        Ok(Received::Lost) => true,
+        Ok(Received::Path(_)) => false,
+        Err(_) => false,
     }
 }
 
@@ -235,7 +192,12 @@ fn unmark_all(entries: &[u64], place: usize, adapter: u8, idle: &mut [u8])
 }
 
 // The rings that are known to have no tunnel before each is asked, marked with 1.
-fn at_rest(entries: &[u64], place: usize, adapter: u8, found: Received) -> [u8; 2048]
+fn at_rest(
+    entries: &[u64],
+    place: usize,
+    adapter: u8,
+    found: Result<Received, Refusal>,
+) -> [u8; 2048]
     ensures { (ad ro ma : List ℕ) → Receives entries.now ad ro ma 65535 found → Idle entries.now ad ro ma place adapter result }
 {
     if !is_quiet(entries, found) {
@@ -247,24 +209,17 @@ fn at_rest(entries: &[u64], place: usize, adapter: u8, found: Received) -> [u8; 
 }
 
 // How many notes of a search there are; `UNTOLD` where a path is found, or there are that many. As many as the search had room for tell nothing.
-fn known_notes(found: Received, noted: usize) -> usize
+fn known_notes(found: Result<Received, Refusal>, noted: usize) -> usize
     ensures { Known found noted result }
 {
     if UNTOLD <= noted {
         return UNTOLD;
     }
     match found {
-        Received::Nothing => noted,
-        Received::Lost => noted,
-        Received::Refused(_) => noted,
-        Received::Path {
-            place: _,
-            adapter: _,
-            hop: _,
-            hops: _,
-            out_place: _,
-            out_adapter: _,
-        } => UNTOLD,
+        Ok(Received::Nothing) => noted,
+        Ok(Received::Lost) => noted,
+        Ok(Received::Path(_)) => UNTOLD,
+        Err(_) => noted,
     }
 }
 
@@ -290,29 +245,24 @@ fn noted_path(
     routes: &[u64],
     marks: &[u64],
     note: u64,
-) -> Received
+) -> Result<Received, Refusal>
     ensures { (ring : ℕ) → NotePath entries.now adapters.now routes.now marks.now ring note result }
 {
     let place = (note / 1099511627776 % 65536) as usize;
     let adapter = (note / 4294967296 % 256) as u8;
     let hop = (note / 65536 % 65536) as u16;
-    match walk::tally(entries, adapters, routes, marks, place, adapter, hop) {
-        Walked::Refused(refusal) => Received::Refused(refusal),
-        Walked::Absent => Received::Nothing,
-        Walked::Path {
-            hops,
-            place: out_place,
-            adapter: out_adapter,
-            hop: _,
-        } => Received::Path {
-            place,
-            adapter,
-            hop,
-            hops,
-            out_place,
-            out_adapter,
-        },
-    }
+    let walked = walk::tally(entries, adapters, routes, marks, place, adapter, hop)?;
+    let Some(w) = walked else {
+        return Ok(Received::Nothing);
+    };
+    Ok(Received::Path(ReceivePath {
+        place,
+        adapter,
+        hop,
+        hops: w.hops,
+        out_place: w.place,
+        out_adapter: w.adapter,
+    }))
 }
 
 // The receive path of a ring: by notes, where there are fewer than `UNTOLD`, with `last` for the rings that have none; else by a search.
@@ -323,8 +273,8 @@ fn received_by(
     marks: &[u64],
     ring: u16,
     notes: &[u64],
-    last: Received,
-) -> Received
+    last: Result<Received, Refusal>,
+) -> Result<Received, Refusal>
     requires { Told entries.now adapters.now routes.now marks.now notes.now last }
     ensures { Receives entries.now adapters.now routes.now marks.now ring result }
 {
@@ -350,8 +300,8 @@ fn plan_ring(
     adapter: u8,
     ring: u16,
     notes: &[u64],
-    last: Received,
-) -> Planned
+    last: Result<Received, Refusal>,
+) -> Result<Option<Plan>, Refusal>
     requires { Told entries.now adapters.now routes.now marks.now notes.now last }
     ensures { Plans entries.now adapters.now routes.now marks.now place (λ x. one_dma x place adapter ring) result }
 {
@@ -382,10 +332,10 @@ fn tally_rings(
     adapter: u8,
     end: u32,
     notes: &[u64],
-    last: Received,
+    last: Result<Received, Refusal>,
     idle: &mut [u8; 2048],
     draft: &mut [u32],
-) -> Tally
+) -> Result<usize, Refusal>
     requires { (1 ≤ end) × (end ≤ 65536) × Idle entries.now adapters.now routes.now marks.now place adapter idle.old × Told entries.now adapters.now routes.now marks.now notes.now last }
     ensures tallies { Tallies entries.now adapters.now routes.now marks.now place adapter (end - 1) result × Idle entries.now adapters.now routes.now marks.now place adapter idle.new }
     ensures drafted { Drafted entries.now adapters.now routes.now marks.now place adapter (end - 1) draft.new }
@@ -400,21 +350,15 @@ fn tally_rings(
             let r = ring as u16;
             let plan = plan_ring(
                 entries, adapters, routes, marks, place, adapter, r, notes, last,
-            );
-            match tally_plan(plan) {
-                Tally::Refused(refusal) => {
-                    return Tally::Refused(refusal);
-                }
-                Tally::Words(words) => {
-                    need += words;
-                    mark(idle, ring, words);
-                    at = put_plan(entries, adapters, routes, marks, plan, draft, at);
-                    ring += 1;
-                }
-            }
+            )?;
+            let words = tally_plan(plan);
+            need += words;
+            mark(idle, ring, words);
+            at = put_plan(entries, adapters, routes, marks, plan, draft, at);
+            ring += 1;
         }
     }
-    Tally::Words(need)
+    Ok(need)
 }
 
 // Whether a ring is marked.
@@ -434,7 +378,7 @@ fn put_ring(
     adapter: u8,
     ring: u32,
     notes: &[u64],
-    last: Received,
+    last: Result<Received, Refusal>,
     idle: &[u8; 2048],
     output: &mut [u32],
     at: usize,
@@ -446,9 +390,11 @@ fn put_ring(
         return at;
     }
     let r = ring as u16;
-    let plan = plan_ring(
+    let Ok(plan) = plan_ring(
         entries, adapters, routes, marks, place, adapter, r, notes, last,
-    );
+    ) else {
+        return at;
+    };
     put_plan(entries, adapters, routes, marks, plan, output, at)
 }
 
@@ -462,7 +408,7 @@ fn put_rings(
     adapter: u8,
     end: u32,
     notes: &[u64],
-    last: Received,
+    last: Result<Received, Refusal>,
     idle: &[u8; 2048],
     output: &mut [u32],
 )
@@ -504,7 +450,7 @@ fn put_tallied(
     adapter: u8,
     end: u32,
     notes: &[u64],
-    last: Received,
+    last: Result<Received, Refusal>,
     idle: &[u8; 2048],
     draft: &[u32],
     output: &mut [u32],
@@ -528,39 +474,29 @@ fn put_one(
     adapters: &[u64],
     routes: &[u64],
     marks: &[u64],
-    plan: Planned,
+    plan: Option<Plan>,
     output: &mut [u32],
-) -> TunnelsAnswer
-    requires { paths_by plan ≤ 3 }
-    ensures { OneAnswered entries.now adapters.now routes.now marks.now plan output.old result output.new }
+) -> Result<Option<usize>, Refusal>
+    requires { paths_by (Ok plan) ≤ 3 }
+    ensures { OneAnswered entries.now adapters.now routes.now marks.now (Ok plan) output.old result output.new }
 {
-    match plan {
-        Planned::Refused(refusal) => TunnelsAnswer::Refused(refusal),
-        Planned::Absent => TunnelsAnswer::Absent,
-        Planned::Tunnel {
-            kind: _,
-            closed: _,
-            words,
-            paths: _,
-            first: _,
-            second: _,
-            third: _,
-        } => {
-            if output.len() < words {
-                return TunnelsAnswer::Short(words);
-            }
-            put_plan(
-                entries,
-                adapters,
-                routes,
-                marks,
-                plan,
-                &mut output[..words],
-                0,
-            );
-            TunnelsAnswer::Words(words)
-        }
+    let Some(p) = plan else {
+        return Ok(None);
+    };
+    let words = p.words;
+    if output.len() < words {
+        return Err(Refusal::Short(words));
     }
+    put_plan(
+        entries,
+        adapters,
+        routes,
+        marks,
+        plan,
+        &mut output[..words],
+        0,
+    );
+    Ok(Some(words))
 }
 
 // The tunnels of rings 1 to `end`, which is left out, by what the search for ring 65,535 noted and came to.
@@ -573,9 +509,9 @@ fn put_noted(
     adapter: u8,
     end: u32,
     notes: &[u64],
-    found: Received,
+    found: Result<Received, Refusal>,
     output: &mut [u32],
-) -> TunnelsAnswer
+) -> Result<Option<usize>, Refusal>
     requires { (1 ≤ end) × (end ≤ 65536) × Told entries.now adapters.now routes.now marks.now notes.now found × Receives entries.now adapters.now routes.now marks.now 65535 found }
     ensures { Answered entries.now adapters.now routes.now marks.now place (λ x. ring_list x place adapter (end - 1)) output.old result output.new }
 {
@@ -584,10 +520,10 @@ fn put_noted(
     match tally_rings(
         entries, adapters, routes, marks, place, adapter, end, notes, found, &mut idle, &mut draft,
     ) {
-        Tally::Refused(refusal) => TunnelsAnswer::Refused(refusal),
-        Tally::Words(need) => {
+        Err(refusal) => Err(refusal),
+        Ok(need) => {
             if output.len() < need {
-                return TunnelsAnswer::Short(need);
+                return Err(Refusal::Short(need));
             }
             put_tallied(
                 entries,
@@ -603,7 +539,7 @@ fn put_noted(
                 &draft,
                 &mut output[..need],
             );
-            TunnelsAnswer::Words(need)
+            Ok(Some(need))
         }
     }
 }
@@ -618,7 +554,7 @@ fn put_far(
     adapter: u8,
     end: u32,
     output: &mut [u32],
-) -> TunnelsAnswer
+) -> Result<Option<usize>, Refusal>
     requires { (1 ≤ end) × (end ≤ 65536) }
     ensures { Answered entries.now adapters.now routes.now marks.now place (λ x. ring_list x place adapter (end - 1)) output.old result output.new }
 {
@@ -651,7 +587,7 @@ fn put_searched(
     end: u32,
     far: bool,
     output: &mut [u32],
-) -> TunnelsAnswer
+) -> Result<Option<usize>, Refusal>
     requires { (1 ≤ end) × (end ≤ 65536) }
     ensures { Answered entries.now adapters.now routes.now marks.now place (λ x. ring_list x place adapter (end - 1)) output.old result output.new }
 {
@@ -691,18 +627,15 @@ fn put_dma(
     marks: &[u64],
     place: usize,
     adapter: u8,
-    most: MaxHop,
+    most: Result<Option<u32>, FieldError>,
     output: &mut [u32],
-) -> TunnelsAnswer
+) -> Result<Option<usize>, Refusal>
     ensures { Answered entries.now adapters.now routes.now marks.now place (λ x. dma_by x place adapter (max_hop_outcome (adapter_site place adapter) most)) output.old result output.new }
 {
     match most {
-        MaxHop::None => TunnelsAnswer::Absent,
-        MaxHop::NoField => TunnelsAnswer::Refused(Refusal::Fault(Fault::NoField(Site {
-            place,
-            adapter,
-        }))),
-        MaxHop::Hop(largest) => {
+        Ok(None) => Ok(None),
+        Err(_) => Err(Refusal::Fault(Fault::NoField(Site { place, adapter }))),
+        Ok(Some(largest)) => {
             let end = rings_end(largest);
             put_searched(
                 entries, adapters, routes, marks, place, adapter, end, false, output,
@@ -720,7 +653,7 @@ fn plan_of(
     place: usize,
     adapter: u8,
     kind: u32,
-) -> Planned
+) -> Result<Option<Plan>, Refusal>
     ensures { Plans entries.now adapters.now routes.now marks.now place (λ x. tunnel_by x place adapter kind) result }
 {
     if kind == 4 {
@@ -734,7 +667,7 @@ fn plan_of(
         let usb3 = TunnelType::Usb3;
         return tunnel::down_and_up(entries, adapters, routes, marks, place, adapter, usb3, 0, 1);
     }
-    Planned::Absent
+    Ok(None)
 }
 
 // By the adapter's kind; a disabled adapter or one of another kind has none, and a host interface is always enabled.
@@ -746,7 +679,7 @@ fn of_kind(
     place: usize,
     facts: Facts,
     output: &mut [u32],
-) -> TunnelsAnswer
+) -> Result<Option<usize>, Refusal>
     ensures { Answered entries.now adapters.now routes.now marks.now place (λ x. discover x place (facts_row place facts)) output.old result output.new }
 {
     let number = facts.number;
@@ -760,9 +693,9 @@ fn of_kind(
     }
     let state = facts.state;
     if usb4::state_number(state) != 2 {
-        return TunnelsAnswer::Absent;
+        return Ok(None);
     }
-    let plan = plan_of(entries, adapters, routes, marks, place, number, code);
+    let plan = plan_of(entries, adapters, routes, marks, place, number, code)?;
     put_one(entries, adapters, routes, marks, plan, output)
 }
 
@@ -775,20 +708,20 @@ pub fn discover_in(
     place: usize,
     adapter: u8,
     output: &mut [u32],
-) -> TunnelsAnswer
+) -> Result<Option<usize>, Refusal>
     ensures { Discovered entries.now adapters.now routes.now marks.now place adapter output.old result output.new }
 {
     if MOST_ENTRIES < entries.len() {
-        return TunnelsAnswer::Absent;
+        return Ok(None);
     }
     if MOST_DEVICES < routes.len() {
-        return TunnelsAnswer::Absent;
+        return Ok(None);
     }
-    let DeviceFound::Device(_) = routers::find_device(routes, marks, place) else {
-        return TunnelsAnswer::Refused(Refusal::Missing);
+    let Some(_) = routers::find_device(routes, marks, place) else {
+        return Err(Refusal::Missing);
     };
-    let AdapterFound::Adapter(facts) = search::find_adapter(adapters, place, adapter) else {
-        return TunnelsAnswer::Refused(Refusal::Missing);
+    let Some(facts) = search::find_adapter(adapters, place, adapter) else {
+        return Err(Refusal::Missing);
     };
     of_kind(entries, adapters, routes, marks, place, facts, output)
 }

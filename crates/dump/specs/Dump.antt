@@ -1,13 +1,13 @@
 -- Document 01, module 3: a dump, as `read` reads it. Assumes nothing.
-use Rattle.std.specs.Prelude.{ℕ, ◌≡◌, cond, ◌||◌, List, [], ◌∷◌, ◌++◌, map, ltb, length, drop, replicate}
+use Rattle.std.specs.Prelude.{ℕ, ◌≡◌, cond, ◌||◌, List, [], ◌∷◌, ◌++◌, map, ltb, length, drop, replicate, Result}
 use Rattle.refusal.specs.Outcome.{Outcome, refused, value}
 use Rattle.scan.specs.Scan.{lines, is_high, place_from}
 use Rattle.groups.specs.Group.{group_of, words}
 use Rattle.room.specs.Records.{records_of, words_needed}
 use Rattle.dump.specs.Sort.{sort}
 use Rattle.register.specs.declared.Register.{Register}
-use Rattle.dump.specs.declared.Dump.{Dump}
-use Rattle.dump.specs.declared.Dump.TheVariants as dump
+use Rattle.refusal.specs.Refusal.{outcome}
+use Rattle.refusal.specs.declared.Refusal.{Refusal}
 
 abbrev pub offset : Register → ℕ
 offset r = r.offset
@@ -36,14 +36,8 @@ unfoldable pub output_after : Outcome ℕ → List ℕ → List ℕ → List ℕ
 output_after (refused n vs) s old = old
 output_after (value n) s old = dump_words s ++ drop (words_needed s) old
 
--- document 01's number and values for what the dump reader answers
-unfoldable pub dump_outcome : Dump → Outcome ℕ
-dump_outcome (dump.Records n) = value n
-dump_outcome (dump.NotAscii p) = refused 1 (p ∷ [])
-dump_outcome (dump.Short w) = refused 2 (w ∷ [])
-
 -- the dump reader's complete outcome: what it answers, and both buffers afterwards
-pub record ReadDone (s scratch output : List ℕ) (r : Dump) (scratch' output' : List ℕ) : Type 0 where
-  pub answers : dump_outcome r ≡ dump_answer s (length scratch) (length output)
-  pub clears : scratch' ≡ scratch_after (dump_outcome r) scratch
-  pub writes : output' ≡ output_after (dump_outcome r) s output
+pub record ReadDone (s scratch output : List ℕ) (r : Result ℕ Refusal) (scratch' output' : List ℕ) : Type 0 where
+  pub answers : outcome r ≡ dump_answer s (length scratch) (length output)
+  pub clears : scratch' ≡ scratch_after (outcome r) scratch
+  pub writes : output' ≡ output_after (outcome r) s output

@@ -4,9 +4,8 @@
 ghost use Rattle.std.specs.Prelude.{◌≡◌};
 ghost use Rattle.adapters.specs.Calls.{path_answer, path_outcome};
 
-use adapters::PathAnswer;
-use load::{LoadAnswer, Refusal};
-use tables::{AdapterFound, EntryAt};
+use adapter::EntryOut;
+use refusal::Refusal;
 
 // The first valid entry for a HopID.
 pub fn path(
@@ -15,38 +14,20 @@ pub fn path(
     place: usize,
     number: u8,
     in_hop: u16,
-) -> PathAnswer
+) -> Result<Option<EntryOut>, Refusal>
     ensures { path_outcome place number in_hop result ≡ path_answer descriptions.now survey.now place number in_hop }
 {
     let loaded = load::load(descriptions, survey);
     let answer = loaded.answer;
-    match answer {
-        LoadAnswer::Refused(refusal) => PathAnswer::Refused(refusal),
-        LoadAnswer::Tables {
-            entries,
-            adapters,
-            devices,
-        } => {
-            if devices <= place {
-                return PathAnswer::Refused(Refusal::Missing);
-            }
-            let table = loaded.adapters;
-            let AdapterFound::Adapter(_) = search::find_adapter(&table[..adapters], place, number)
-            else {
-                return PathAnswer::Refused(Refusal::Missing);
-            };
-            let rows = loaded.entries;
-            let EntryAt::Entry {
-                out_adapter,
-                out_hop,
-            } = search::find_entry(&rows[..entries], place, number, in_hop)
-            else {
-                return PathAnswer::None;
-            };
-            PathAnswer::Entry {
-                out_adapter,
-                out_hop,
-            }
-        }
+    let counts = answer?;
+    if counts.devices <= place {
+        return Err(Refusal::Missing);
     }
+    let table = loaded.adapters;
+    let Some(_) = search::find_adapter(&table[..counts.adapters], place, number) else {
+        return Err(Refusal::Missing);
+    };
+    let rows = loaded.entries;
+    let found = search::find_entry(&rows[..counts.entries], place, number, in_hop);
+    Ok(found)
 }

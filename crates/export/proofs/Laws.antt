@@ -1,18 +1,14 @@
 -- The outcomes of the exported calls that write. Assumes nothing.
 use Prim.Native.Nat.{ℕ, ◌<◌}
-use native.Mathlib.Omega.{arith}
 use mathlib.Core.Path.{◌≡◌, refl, sym, ap, ◌∙◌, subst}
 use mathlib.Core.Bool.{Bool, true, false, cond, true≢false}
 use mathlib.Core.List.{List, [], ◌∷◌, ◌++◌}
-use mathlib.Core.Option.{Option, none, some}
+use Rattle.std.specs.Prelude.{Option, None, Some, Err, Ok, Result}
 use lib.Dec.{ltb}
 use lib.ListN.{length, drop}
 use Rattle.refusal.specs.Outcome.{Outcome, refused, value, bind}
-use Rattle.dump.specs.Dump.{dump_outcome, scratch_after, output_after, ReadDone}
-use Rattle.dump.specs.declared.Dump.{Dump}
-use Rattle.dump.specs.declared.Dump.TheVariants as dump
+use Rattle.dump.specs.Dump.{scratch_after, output_after, ReadDone}
 use Rattle.text.specs.Text as text
-use Rattle.text.specs.declared.TextAnswer.{TextAnswer}
 use Rattle.adapter.specs.Adapter.{AdapterRow}
 use Rattle.tables.specs.Rows.{Rows}
 use Rattle.load.specs.Loading.{loaded}
@@ -20,32 +16,29 @@ use Rattle.load.specs.Answers.{asked_adapter}
 use Rattle.walk.specs.Walking.{Stand}
 use Rattle.walk.specs.Rule.{WalkRule}
 use Rattle.path.specs.Words.{words_needed, with_path}
-use Rattle.path.specs.Put.{walk_outcome, is_path}
-use Rattle.path.specs.declared.WalkAnswer.{WalkAnswer}
-use Rattle.path.specs.declared.WalkAnswer.TheVariants as walk
+use Rattle.path.specs.Put.{is_path}
 use Rattle.walks.specs.Calls.{single, path_answer, walk_answer, WalkDone}
 use Rattle.discovery.specs.Answers as tunnels
-use Rattle.discovery.specs.declared.TunnelsAnswer.{TunnelsAnswer}
-use Rattle.discovery.specs.declared.TunnelsAnswer.TheVariants as list
 use Rattle.discoveries.specs.Calls.{DiscoverDone}
 use Rattle.answers.specs.Said.{answered, padded, said, always, words_in, perhaps, one}
 use Rattle.findings.specs.Findings.{hop_count_words}
 use Rattle.export.specs.Exported.{DumpSaid, TextSaid, WalkSaid, DiscoverSaid}
 use Rattle.export.proofs.Walks.{path_words_lem, endless_said, again_said}
+use Rattle.refusal.specs.Refusal.{outcome}
+use Rattle.refusal.specs.declared.Refusal.{Refusal}
 
 module _ (s scratch output : List ℕ) where
-  dump_kept : (r : Dump) → answered (said (always one (dump_outcome r))) ≡ false → (scratch_after (dump_outcome r) scratch ≡ scratch) × (output_after (dump_outcome r) s output ≡ output)
-  unfolding answered said padded always one bind dump_outcome scratch_after output_after
-  dump_kept (dump.Records n) h = absurd (true≢false h)
-  dump_kept (dump.NotAscii p) h = (refl, refl)
-  dump_kept (dump.Short w) h = (refl, refl)
+  dump_kept : (o : Outcome ℕ) → answered (said (always one o)) ≡ false → (scratch_after o scratch ≡ scratch) × (output_after o s output ≡ output)
+  unfolding answered said padded always one bind scratch_after output_after
+  dump_kept (refused n vs) h = (refl, refl)
+  dump_kept (value n) h = absurd (true≢false h)
 
-  pub dump_said : (r : Dump) (scratch' output' a : List ℕ) → ReadDone s scratch output r scratch' output' → a ≡ said (always one (dump_outcome r)) → DumpSaid s scratch output scratch' output' a
+  pub dump_said : (r : Result ℕ Refusal) (scratch' output' a : List ℕ) → ReadDone s scratch output r scratch' output' → a ≡ said (always one (outcome r)) → DumpSaid s scratch output scratch' output' a
   dump_said r scratch' output' a d e = record {
     says = e ∙ ap (λ o. said (always one o)) d.answers;
     clears = d.clears ∙ ap (λ o. scratch_after o scratch) d.answers;
     writes = d.writes ∙ ap (λ o. output_after o s output) d.answers;
-    kept = λ h. let k = dump_kept r (ap answered (sym e) ∙ h) in (d.clears ∙ k.0, d.writes ∙ k.1);
+    kept = λ h. let k = dump_kept (outcome r) (ap answered (sym e) ∙ h) in (d.clears ∙ k.0, d.writes ∙ k.1);
   }
 
 in_room_lem : (n : ℕ) (new old : List ℕ) (b : Bool) → answered (said (always one (cond b (refused 2 (n ∷ [])) (value n)))) ≡ false → cond b old new ≡ old
@@ -58,24 +51,23 @@ unfolding bind text.in_room text.output_by
 text_kept (refused n vs) output h = refl
 text_kept (value ws) output h = in_room_lem (length ws) (ws ++ drop (length ws) output) output (ltb (length output) (length ws)) h
 
-pub text_said : (t output : List ℕ) (r : TextAnswer) (output' a : List ℕ) → text.TextDone t output r output' → a ≡ said (always one (text.text_outcome r)) → TextSaid t output output' a
+pub text_said : (t output : List ℕ) (r : Result ℕ Refusal) (output' a : List ℕ) → text.TextDone t output r output' → a ≡ said (always one (outcome r)) → TextSaid t output output' a
 text_said t output r output' a d e =
     let says = e ∙ ap (λ o. said (always one o)) d.answers in
     record { says = says; writes = d.writes; kept = λ h. d.writes ∙ text_kept (text.survey_of t) output (ap answered (sym says) ∙ h) }
 
-no_path_lem : (r : WalkAnswer) → answered (said (perhaps hop_count_words (walk_outcome r))) ≡ false → is_path r ≡ false
-unfolding answered said padded perhaps words_in hop_count_words bind walk_outcome is_path
-no_path_lem (walk.Path n) h = absurd (true≢false h)
-no_path_lem walk.Absent h = refl
-no_path_lem (walk.Short n) h = refl
-no_path_lem (walk.Refused f) h = refl
+no_path_lem : (r : Result (Option ℕ) Refusal) → answered (said (perhaps hop_count_words (outcome r))) ≡ false → is_path r ≡ false
+unfolding answered said padded perhaps words_in hop_count_words bind is_path
+no_path_lem (Ok (Some n)) h = absurd (true≢false h)
+no_path_lem (Ok None) h = refl
+no_path_lem (Err e) h = refl
 
-module _ (t v : List ℕ) (s : Stand) (output : List ℕ) (r : WalkAnswer) (output' : List ℕ) (d : WalkDone t v s output r output') where
+module _ (t v : List ℕ) (s : Stand) (output : List ℕ) (r : Result (Option ℕ) Refusal) (output' : List ℕ) (d : WalkDone t v s output r output') where
   rule : (x : Rows) (y : AdapterRow) → loaded t v ≡ value x → asked_adapter x s.place s.adapter ≡ value y
       → WalkRule x s (words_needed single) (length output) (λ hs. output' ≡ with_path single hs output) (walk_answer t v s (length output))
   rule x y l k = subst (λ o. WalkRule x s (words_needed single) (length output) (λ hs. output' ≡ with_path single hs output) o) d.answers (d.walks x y l k)
 
-  pub walk_said_lem : (a : List ℕ) → length output < 18446744073709551616 → a ≡ said (perhaps hop_count_words (walk_outcome r)) → WalkSaid t v s output output' a
+  pub walk_said_lem : (a : List ℕ) → length output < 18446744073709551616 → a ≡ said (perhaps hop_count_words (outcome r)) → WalkSaid t v s output output' a
   unfolding walk_answer
   walk_said_lem a h e =
       let counted = e ∙ ap (λ o. said (perhaps hop_count_words o)) d.answers in
@@ -88,14 +80,13 @@ module _ (t v : List ℕ) (s : Stand) (output : List ℕ) (r : WalkAnswer) (outp
         again = λ x y l k. again_said (words_needed single) (length output) x s (λ hs. output' ≡ with_path single hs output) (walk_answer t v s (length output)) a counted (rule x y l k);
       }
 
-no_list : (r : TunnelsAnswer) → answered (said (perhaps one (tunnels.tunnels_outcome r))) ≡ false → tunnels.is_list r ≡ false
-unfolding answered said padded perhaps words_in one bind tunnels.tunnels_outcome tunnels.is_list
-no_list (list.Words n) h = absurd (true≢false h)
-no_list list.Absent h = refl
-no_list (list.Short n) h = refl
-no_list (list.Refused f) h = refl
+no_list : (r : Result (Option ℕ) Refusal) → answered (said (perhaps one (outcome r))) ≡ false → tunnels.is_list r ≡ false
+unfolding answered said padded perhaps words_in one bind tunnels.is_list
+no_list (Ok (Some n)) h = absurd (true≢false h)
+no_list (Ok None) h = refl
+no_list (Err e) h = refl
 
-pub discover_said : (t v : List ℕ) (p a : ℕ) (output : List ℕ) (r : TunnelsAnswer) (output' ws : List ℕ) → DiscoverDone t v p a output r output' → ws ≡ said (perhaps one (tunnels.tunnels_outcome r))
+pub discover_said : (t v : List ℕ) (p a : ℕ) (output : List ℕ) (r : Result (Option ℕ) Refusal) (output' ws : List ℕ) → DiscoverDone t v p a output r output' → ws ≡ said (perhaps one (outcome r))
     → DiscoverSaid t v p a output output' ws
 discover_said t v p a output r output' ws d e = record {
   says = e ∙ ap (λ o. said (perhaps one o)) d.answers;

@@ -2,10 +2,10 @@
 use Prim.Native.Nat.{ℕ, ◌+◌, ◌*◌, ◌≤◌, ◌<◌}
 use native.Mathlib.Omega.{arith}
 use mathlib.Core.Path.{◌≡◌, refl, sym, ap, ◌∙◌, subst}
-use mathlib.Core.Logic.{◌↔◌, ◌⊎◌, ⊎_elim}
+use mathlib.Core.Logic.{◌↔◌, ⊎_elim}
 use mathlib.Core.Bool.{Bool, true, false, cond, true≢false}
 use mathlib.Core.List.{List, [], ◌∷◌}
-use mathlib.Core.Option.{Option, none, some}
+use Rattle.std.specs.Prelude.{Option, None, Some}
 use lib.Dec.{ltb}
 use lib.ListN.{length, get_or}
 use borrow.Author.Tests.{lt-ltb, ltb-false}
@@ -17,7 +17,7 @@ use Rattle.walk.specs.Rule.{settled, in_room, walk_fault, WalkRule}
 use Rattle.path.specs.Words.{words_needed}
 use Rattle.path.proofs.Writing.{length_path_words}
 use Rattle.walks.specs.Calls.{single}
-use Rattle.answers.specs.Said.{padded, said, words_in, perhaps, one}
+use Rattle.answers.specs.Said.{padded, said, words_in, perhaps}
 use Rattle.findings.specs.Findings.{hop_count_words}
 use Rattle.export.specs.Exported.{path_size}
 
@@ -30,17 +30,17 @@ words_counted hs room h k =
     ap (λ b. cond b (1 + 2 * length hs) 0 ∷ []) l
 
 by_room : (hs : List EntryRow) (room : ℕ) → room < 18446744073709551616 → (b : Bool) → ltb room (words_needed single hs) ≡ b
-    → perhaps hop_count_words (cond b (refused 2 (words_needed single hs ∷ [])) (value (some (length hs)))) ≡ perhaps path_size (cond b (refused 2 (words_needed single hs ∷ [])) (value (some (length hs))))
+    → perhaps hop_count_words (cond b (refused 2 (words_needed single hs ∷ [])) (value (Some (length hs)))) ≡ perhaps path_size (cond b (refused 2 (words_needed single hs ∷ [])) (value (Some (length hs))))
 unfolding perhaps words_in bind
 by_room hs room h true e = refl
-by_room hs room h false e = ap (λ ws. value (some ws)) (words_counted hs room h (omega (arith, ltb-false room (words_needed single hs) e)))
+by_room hs room h false e = ap (λ ws. value (Some ws)) (words_counted hs room h (omega (arith, ltb-false room (words_needed single hs) e)))
 
 -- the words of a path by its number of hops
 pub path_words_lem : (o : Outcome (Option (List EntryRow))) (room : ℕ) → room < 18446744073709551616 → perhaps hop_count_words (bind o (in_room (words_needed single) room)) ≡ perhaps path_size (bind o (in_room (words_needed single) room))
 unfolding perhaps words_in bind in_room
 path_words_lem (refused n vs) room h = refl
-path_words_lem (value none) room h = refl
-path_words_lem (value (some hs)) room h = by_room hs room h (ltb room (words_needed single hs)) refl
+path_words_lem (value None) room h = refl
+path_words_lem (value (Some hs)) room h = by_room hs room h (ltb room (words_needed single hs)) refl
 
 -- a refusal's number, 0 for an answer
 unfoldable number_in : Outcome (Option ℕ) → ℕ
@@ -50,8 +50,8 @@ number_in (value a) = 0
 first_said : (o : Outcome (Option ℕ)) → get_or (said (perhaps hop_count_words o)) 0 0 ≡ number_in o
 unfolding said padded perhaps words_in bind number_in
 first_said (refused n vs) = refl
-first_said (value none) = refl
-first_said (value (some n)) = refl
+first_said (value None) = refl
+first_said (value (Some n)) = refl
 
 thirteen : walk_fault 13 ≡ true → ⊥
 unfolding walk_fault
@@ -62,7 +62,7 @@ module _ (need : List EntryRow → ℕ) (room : ℕ) where
   unfoldable ending : List EntryRow → Spot Stand End → ℕ
   ending hs p = number_in (bind (settled hs p) (in_room need room))
 
-  in_room_lem : (n k : ℕ) (b : Bool) → number_in (cond b (refused 2 (n ∷ [])) (value (some k))) ≡ 13 → ⊥
+  in_room_lem : (n k : ℕ) (b : Bool) → number_in (cond b (refused 2 (n ∷ [])) (value (Some k))) ≡ 13 → ⊥
   unfolding number_in
   in_room_lem n k true h = omega (arith, h)
   in_room_lem n k false h = omega (arith, h)

@@ -1,11 +1,10 @@
 -- The complete outcomes of the exported calls that write into lent buffers (of our descriptions: lookups/specs/Handed.antt); `answer` is what the call says, and no lent buffer. Assumes nothing.
-use Rattle.std.specs.Prelude.{ℕ, ◌+◌, ◌*◌, ◌≡◌, ◌↔◌, Bool, false, cond, ◌&&◌, List, [], ◌∷◌, eqb, ltb, length, get_or}
-use Rattle.std.proofs.Math.Option.{Option, none, some}
-use Rattle.refusal.specs.Outcome.{Outcome, refused, value, bind}
+use Rattle.std.specs.Prelude.{ℕ, ◌+◌, ◌*◌, ◌≡◌, ◌↔◌, false, List, [], ◌∷◌, length, get_or}
+use Rattle.refusal.specs.Outcome.{value, bind}
 use Rattle.dump.specs.Dump.{dump_answer, scratch_after, output_after}
 use Rattle.text.specs.Text as text
 use Rattle.adapter.specs.Adapter.{AdapterRow}
-use Rattle.tables.specs.Rows.{EntryRow, Rows}
+use Rattle.tables.specs.Rows.{Rows}
 use Rattle.load.specs.Loading.{loaded}
 use Rattle.load.specs.Answers.{asked_adapter}
 use Rattle.orbit.specs.Walk.{Never, Again}

@@ -3,6 +3,7 @@
 #![tactic(auto)]
 
 ghost use Rattle.std.specs.Prelude.{◌≡◌};
+ghost use Rattle.refusal.specs.Outcome.{value};
 ghost use Rattle.register.specs.Line.{line_answer};
 ghost use Rattle.description.specs.Rules.{check_of};
 ghost use Rattle.survey.specs.Rules.{check_of as survey_check};
@@ -11,7 +12,7 @@ ghost use Rattle.acceptance.specs.Accepted.{accepted_answer};
 ghost use Rattle.adapters.specs.Calls.{adapter_answer, speed_answer, max_hop_answer};
 ghost use Rattle.parents.specs.Parents.{parent_answer};
 ghost use Rattle.walk.specs.Walking.{Stand};
-ghost use Rattle.answers.specs.Said.{said, always, perhaps, one, bare, register_words, hex_of_bits, number_outcome};
+ghost use Rattle.answers.specs.Said.{said, always, perhaps, one, bare, register_words, hex_of_bits};
 ghost use Rattle.lookups.specs.Handed.{OursSaid};
 ghost use Rattle.replies.specs.Replies.{counts_words, info_words, speed_words};
 ghost use Rattle.export.specs.Exported.{DumpSaid, TextSaid, WalkSaid, DiscoverSaid};
@@ -21,7 +22,7 @@ use naming::Sought;
 // A hex number of 16, 32 or 64 bits: its value, or none.
 #[unsafe(no_mangle)]
 pub extern "C" fn tunnels_parse_hex(text: &[u8], bits: u32, answer: &mut [u64; 8])
-    ensures { answer.new ≡ said (perhaps one (number_outcome (hex_of_bits bits text.now))) }
+    ensures { answer.new ≡ said (perhaps one (value (hex_of_bits bits text.now))) }
 {
     let a = answers::hex(text, bits);
     *answer = a;

@@ -3,7 +3,8 @@ use Prim.Native.Nat.{ℕ, suc, ◌+◌, ◌<◌}
 use mathlib.Core.Bool.{Bool, true, false, cond, ◌&&◌}
 use mathlib.Core.Path.{◌≡◌, refl, sym, ap, ◌∙◌, subst}
 use mathlib.Core.List.{List, [], ◌∷◌}
-use mathlib.Core.Option.{Option, none, some, some-injective, none-ne-some}
+use Rattle.std.specs.Prelude.{Option, None, Some}
+use Rattle.std.proofs.lemmas.Option.{same_Some, none-some}
 use native.Mathlib.Omega.{arith}
 use native.Mathlib.Decide.{dec_lt}
 use lib.Dec.{eqb}
@@ -16,15 +17,11 @@ use Rattle.refusal.specs.declared.Fault.TheVariants.{NoParentRoute, NoDownstream
 use Rattle.usb4.specs.Numbers.{type_number}
 use Rattle.usb4.specs.declared.AdapterType.{AdapterType}
 use Rattle.route.specs.Route.{upstream_route, downstream_route, downstream_adapter}
-use Rattle.route.specs.declared.RouteFound.{RouteFound}
-use Rattle.route.specs.declared.AdapterFound.{AdapterFound}
 use Rattle.adapter.specs.Adapter.{AdapterRow, adapter_site, is_lane}
 use Rattle.tables.specs.Rows.{EntryRow, DeviceRow, Rows, adapter_in, device_in, is_router, router_from}
 use Rattle.tables.specs.Packed.{Sorted, adapter_unit, adapters_in, device_word, devices_from, devices_in}
 use Rattle.tables.proofs.Laws.{device_past_routes}
-use Rattle.search.specs.Lanes.{lane_if, lane_found, LaneSought}
-use Rattle.search.specs.declared.LaneAt.{LaneAt}
-use Rattle.search.specs.declared.LaneAt.TheVariants as lane
+use Rattle.search.specs.Lanes.{lane_if, LaneSought}
 use Rattle.load.specs.Answers.{present, asked_device}
 use Rattle.fabric.specs.Links.{is_upstream, upstream_route_of, downstream_route_of, route_or}
 use Rattle.fabric.specs.Fabric.{Way, Way.on, Way.last, Way.dropped, stand_by, up_by, arrive_up, down_by, arrive_down, to_device, to_router, to_route, leads_from, leads_by, leads}
@@ -41,122 +38,121 @@ unfolding is_lane
 no_lane_by k n e f = ne_eqb _ _ (λ g. f (e ∙ g))
 
 module _ (p : ℕ) (d : DeviceRow) (x : AdapterRow) where
-  pub up_no_lane : is_lane x.kind ≡ false → value none ≡ upstream_route_of p d x
+  pub up_no_lane : is_lane x.kind ≡ false → value None ≡ upstream_route_of p d x
   unfolding upstream_route_of
   up_no_lane e = rw e refl
 
-  pub up_other : is_lane x.kind ≡ true → is_upstream d.upstream x.number ≡ false → value none ≡ upstream_route_of p d x
+  pub up_other : is_lane x.kind ≡ true → is_upstream d.upstream x.number ≡ false → value None ≡ upstream_route_of p d x
   unfolding upstream_route_of
   up_other e g = rw (e, g) refl
 
-  pub up_route : is_lane x.kind ≡ true → is_upstream d.upstream x.number ≡ true → (f : RouteFound) → upstream_route d.route ≡ f → route_or (NoParentRoute (adapter_site p x.number)) f ≡ upstream_route_of p d x
+  pub up_route : is_lane x.kind ≡ true → is_upstream d.upstream x.number ≡ true → (f : Option ℕ) → upstream_route d.route ≡ f → route_or (NoParentRoute (adapter_site p x.number)) f ≡ upstream_route_of p d x
   unfolding upstream_route_of
   up_route e g f h = rw (e, g, h) refl
 
-  pub down_no_lane : is_lane x.kind ≡ false → value none ≡ downstream_route_of p d x
+  pub down_no_lane : is_lane x.kind ≡ false → value None ≡ downstream_route_of p d x
   unfolding downstream_route_of
   down_no_lane e = rw e refl
 
-  pub down_route : is_lane x.kind ≡ true → (f : RouteFound) → downstream_route d.route x.number ≡ f → route_or (NoDownstreamRoute (adapter_site p x.number)) f ≡ downstream_route_of p d x
+  pub down_route : is_lane x.kind ≡ true → (f : Option ℕ) → downstream_route d.route x.number ≡ f → route_or (NoDownstreamRoute (adapter_site p x.number)) f ≡ downstream_route_of p d x
   unfolding downstream_route_of
   down_route e f h = rw (e, h) refl
 
 -- what follows a route that was sought
-pub by_route : {B : Type 0} (fault : Fault) (k : Option ℕ → Outcome B) (r f o : RouteFound) → r ≡ f → r ≡ o → bind (route_or fault f) k ≡ bind (route_or fault o) k
+pub by_route : {B : Type 0} (fault : Fault) (k : Option ℕ → Outcome B) (r f o : Option ℕ) → r ≡ f → r ≡ o → bind (route_or fault f) k ≡ bind (route_or fault o) k
 by_route fault k r f o e g = ap (λ z. bind (route_or fault z) k) (sym e ∙ g)
 
 -- ---- devices of tables
 
 -- a device that is there, and a router that is found, have a place below the number of devices
-pub device_below : (ro ma : List ℕ) (q : ℕ) (d : DeviceRow) → device_in (devices_in ro ma) q ≡ some d → q < length ro
+pub device_below : (ro ma : List ℕ) (q : ℕ) (d : DeviceRow) → device_in (devices_in ro ma) q ≡ Some d → q < length ro
 device_below ro ma q d e = go (dec_lt q (length ro))
   where
     go : Dec (q < length ro) → q < length ro
     go (yes l) = l
-    go (no l) = absurd (none-ne-some d (device_past_routes 0 ro ma q (omega arith) ∙ e))
+    go (no l) = absurd (none-some d (device_past_routes 0 ro ma q (omega arith) ∙ e))
 
-router_from_lem : (p : ℕ) (ro ma : List ℕ) (domain route q : ℕ) → router_from p (devices_from p ro ma) domain route ≡ some q → q < p + length ro
+router_from_lem : (p : ℕ) (ro ma : List ℕ) (domain route q : ℕ) → router_from p (devices_from p ro ma) domain route ≡ Some q → q < p + length ro
 unfolding router_from devices_from
-router_from_lem p [] ma domain route q e = absurd (none-ne-some q e)
-router_from_lem p (r ∷ rs) [] domain route q e = absurd (none-ne-some q e)
+router_from_lem p [] ma domain route q e = absurd (none-some q e)
+router_from_lem p (r ∷ rs) [] domain route q e = absurd (none-some q e)
 router_from_lem p (r ∷ rs) (m ∷ ms) domain route q e =
     go (is_router (device_word p r m) && eqb (device_word p r m).domain domain && eqb (device_word p r m).route route) (router_from_lem (suc p) rs ms domain route q) e
   where
-    go : (b : Bool) → (router_from (suc p) (devices_from (suc p) rs ms) domain route ≡ some q → q < suc p + length rs)
-        → cond b (some p) (router_from (suc p) (devices_from (suc p) rs ms) domain route) ≡ some q → q < p + suc (length rs)
-    go true next g = omega (arith, some-injective p q g)
+    go : (b : Bool) → (router_from (suc p) (devices_from (suc p) rs ms) domain route ≡ Some q → q < suc p + length rs)
+        → cond b (Some p) (router_from (suc p) (devices_from (suc p) rs ms) domain route) ≡ Some q → q < p + suc (length rs)
+    go true next g = omega (arith, same_Some p q g)
     go false next g = omega (arith, next g)
 
-pub router_below : (ro ma : List ℕ) (domain route q : ℕ) → router_from 0 (devices_in ro ma) domain route ≡ some q → q < length ro
+pub router_below : (ro ma : List ℕ) (domain route q : ℕ) → router_from 0 (devices_in ro ma) domain route ≡ Some q → q < length ro
 router_below ro ma domain route q e = omega (arith, router_from_lem 0 ro ma domain route q e)
 
 -- in tables that are in order, such a place fits a key
-pub device_fits : (ad ro ma : List ℕ) (q : ℕ) (d : DeviceRow) → InOrder ad ro → some d ≡ device_in (devices_in ro ma) q → q < 65536
+pub device_fits : (ad ro ma : List ℕ) (q : ℕ) (d : DeviceRow) → InOrder ad ro → Some d ≡ device_in (devices_in ro ma) q → q < 65536
 device_fits ad ro ma q d k e = omega (arith, k.devices, device_below ro ma q d (sym e))
 
-pub router_fits : (ad ro ma : List ℕ) (domain route q : ℕ) → InOrder ad ro → some q ≡ router_from 0 (devices_in ro ma) domain route → q < 65536
+pub router_fits : (ad ro ma : List ℕ) (domain route q : ℕ) → InOrder ad ro → Some q ≡ router_from 0 (devices_in ro ma) domain route → q < 65536
 router_fits ad ro ma domain route q k e = omega (arith, k.devices, router_below ro ma domain route q (sym e))
 
 -- ---- where a hop leads
 
 -- an adapter that was sought: not there, or what it is
-pub lane_none : (y : Option AdapterRow) → none ≡ lane_if y → none ≡ y
+pub lane_none : (y : Option AdapterRow) → None ≡ lane_if y → None ≡ y
 unfolding lane_if
-lane_none none e = refl
-lane_none (some y) e = absurd (none-ne-some (is_lane y.kind) e)
+lane_none None e = refl
+lane_none (Some y) e = absurd (none-some (is_lane y.kind) e)
 
-lane_some : (y : Option AdapterRow) (b : Bool) → some b ≡ lane_if y → (z : AdapterRow) × (some z ≡ y) × (is_lane z.kind ≡ b)
+lane_some : (y : Option AdapterRow) (b : Bool) → Some b ≡ lane_if y → (z : AdapterRow) × (Some z ≡ y) × (is_lane z.kind ≡ b)
 unfolding lane_if
-lane_some none b e = absurd (none-ne-some b (sym e))
-lane_some (some y) b e = (y, refl, sym (some-injective b (is_lane y.kind) e))
+lane_some None b e = absurd (none-some b (sym e))
+lane_some (Some y) b e = (y, refl, sym (same_Some b (is_lane y.kind) e))
 
-has_number : (xs : List AdapterRow) (p a : ℕ) (z : AdapterRow) → adapter_in xs p a ≡ some z → z.number ≡ a
+has_number : (xs : List AdapterRow) (p a : ℕ) (z : AdapterRow) → adapter_in xs p a ≡ Some z → z.number ≡ a
 unfolding adapter_in
-has_number [] p a z e = absurd (none-ne-some z e)
+has_number [] p a z e = absurd (none-some z e)
 has_number (x ∷ xs) p a z e = go (eqb x.device p) (eqb x.number a) refl (has_number xs p a z) e
   where
-    go : (b c : Bool) → eqb x.number a ≡ c → (adapter_in xs p a ≡ some z → z.number ≡ a) → cond (b && c) (some x) (adapter_in xs p a) ≡ some z → z.number ≡ a
-    go true true q rest f = sym (ap (λ (y : AdapterRow). y.number) (some-injective x z f)) ∙ eqb-true x.number a q
+    go : (b c : Bool) → eqb x.number a ≡ c → (adapter_in xs p a ≡ Some z → z.number ≡ a) → cond (b && c) (Some x) (adapter_in xs p a) ≡ Some z → z.number ≡ a
+    go true true q rest f = sym (ap (λ (y : AdapterRow). y.number) (same_Some x z f)) ∙ eqb-true x.number a q
     go true false q rest f = rest f
     go false true q rest f = rest f
     go false false q rest f = rest f
 
 -- at an adapter that was sought
-module _ (t : List ℕ) (q n : ℕ) (r : LaneAt) (h : LaneSought t q n r) (s : Sorted adapter_unit t) (l : q < 65536) where
-  pub stood_nowhere : r ≡ lane.Nowhere → value dropped ≡ value (stand_by q n (adapter_in (adapters_in t) q n))
-  unfolding lane_found stand_by
-  stood_nowhere e = ap (λ (o : Option AdapterRow). value (stand_by q n o)) (lane_none (adapter_in (adapters_in t) q n) (sym (ap lane_found e) ∙ h.first l s))
-
-  pub stood : (b : Bool) → lane_found r ≡ some b → value (on q n) ≡ value (stand_by q n (adapter_in (adapters_in t) q n))
+module _ (t : List ℕ) (q n : ℕ) (r : Option Bool) (h : LaneSought t q n r) (s : Sorted adapter_unit t) (l : q < 65536) where
+  pub stood_nowhere : r ≡ None → dropped ≡ (stand_by q n (adapter_in (adapters_in t) q n))
   unfolding stand_by
-  stood b e = ap (λ (o : Option AdapterRow). value (stand_by q n o)) (lane_some (adapter_in (adapters_in t) q n) b (sym e ∙ h.first l s)).1
+  stood_nowhere e = ap (λ (o : Option AdapterRow). stand_by q n o) (lane_none (adapter_in (adapters_in t) q n) (sym (e) ∙ h.first l s))
+
+  pub stood : (b : Bool) → r ≡ Some b → on q n ≡ (stand_by q n (adapter_in (adapters_in t) q n))
+  unfolding stand_by
+  stood b e = ap (λ (o : Option AdapterRow). stand_by q n o) (lane_some (adapter_in (adapters_in t) q n) b (sym e ∙ h.first l s)).1
 
 -- what is found, but for an adapter that isn't there
-pub there_or_not : (r : LaneAt) → (r ≡ lane.Nowhere → ⊥) → (b : Bool) × (lane_found r ≡ some b)
-unfolding lane_found
-there_or_not lane.Lane k = (true, refl)
-there_or_not lane.Other k = (false, refl)
-there_or_not lane.Nowhere k = absurd (k refl)
+pub there_or_not : (r : Option Bool) → (r ≡ None → ⊥) → (b : Bool) × (r ≡ Some b)
+there_or_not (Some true) k = (true, refl)
+there_or_not (Some false) k = (false, refl)
+there_or_not None k = absurd (k refl)
 
 -- to the router at a route: none there, its device lost, or there
 module _ (x : Rows) (d : DeviceRow) (r : ℕ) (f : ℕ → DeviceRow → Outcome Way) where
-  pub to_none : none ≡ router_from 0 x.devices d.domain r → value last ≡ to_route x d (some r) f
+  pub to_none : None ≡ router_from 0 x.devices d.domain r → value last ≡ to_route x d (Some r) f
   unfolding to_route to_router
   to_none e = ap (λ (o : Option ℕ). to_router x o f) e
 
-  pub to_device_lem : (q : ℕ) (o : Option DeviceRow) → some q ≡ router_from 0 x.devices d.domain r → o ≡ device_in x.devices q → to_device q o f ≡ to_route x d (some r) f
+  pub to_device_lem : (q : ℕ) (o : Option DeviceRow) → Some q ≡ router_from 0 x.devices d.domain r → o ≡ device_in x.devices q → to_device q o f ≡ to_route x d (Some r) f
   unfolding to_route to_router
   to_device_lem q o e g = ap (λ (z : Option DeviceRow). to_device q z f) g ∙ ap (λ (z : Option ℕ). to_router x z f) e
 
 -- up to it, by the adapter behind which the device hangs; down to it, by its upstream adapter
-module _ (x : Rows) (d : DeviceRow) (r q : ℕ) (e : DeviceRow) (at : some q ≡ router_from 0 x.devices d.domain r) (there : some e ≡ device_in x.devices q) where
-  pub went_up : (a b : AdapterFound) → a ≡ downstream_adapter e.domain e.route d.domain d.route → a ≡ b → value (up_by x q b) ≡ to_route x d (some r) (arrive_up x d)
+module _ (x : Rows) (d : DeviceRow) (r q : ℕ) (e : DeviceRow) (at : Some q ≡ router_from 0 x.devices d.domain r) (there : Some e ≡ device_in x.devices q) where
+  pub went_up : (a b : Option ℕ) → a ≡ downstream_adapter e.domain e.route d.domain d.route → a ≡ b → value (up_by x q b) ≡ to_route x d (Some r) (arrive_up x d)
   unfolding arrive_up to_device
-  went_up a b g h = ap (λ (z : AdapterFound). value (up_by x q z)) (sym h ∙ g) ∙ to_device_lem x d r (arrive_up x d) q (some e) at there
+  went_up a b g h = ap (λ (z : Option ℕ). value (up_by x q z)) (sym h ∙ g) ∙ to_device_lem x d r (arrive_up x d) q (Some e) at there
 
-  pub went_down : (o : Outcome (Option ℕ)) → o ≡ e.upstream → bind o (λ n. value (down_by x q n)) ≡ to_route x d (some r) (arrive_down x)
+  pub went_down : (o : Outcome (Option ℕ)) → o ≡ e.upstream → bind o (λ n. value (down_by x q n)) ≡ to_route x d (Some r) (arrive_down x)
   unfolding arrive_down to_device
-  went_down o g = ap (λ (z : Outcome (Option ℕ)). bind z (λ n. value (down_by x q n))) g ∙ to_device_lem x d r (arrive_down x) q (some e) at there
+  went_down o g = ap (λ (z : Outcome (Option ℕ)). bind z (λ n. value (down_by x q n))) g ∙ to_device_lem x d r (arrive_down x) q (Some e) at there
 
 -- from an out adapter that is there: one that is no lane, or a lane with a number
 module _ (x : Rows) (p : ℕ) (d : DeviceRow) (y : AdapterRow) where
@@ -182,34 +178,33 @@ module _ (x : Rows) (p : ℕ) (d : DeviceRow) (y : AdapterRow) where
 
 -- from a device: not there, or by the out adapter that is asked for
 module _ (x : Rows) (p o : ℕ) where
-  pub leads_missing : none ≡ device_in x.devices p → refused 14 [] ≡ leads x p o
+  pub leads_missing : None ≡ device_in x.devices p → refused 14 [] ≡ leads x p o
   unfolding leads asked_device present bind
   leads_missing e = ap (λ (z : Option DeviceRow). bind (present z) (λ d. leads_by x p o d (adapter_in x.adapters p o))) e
 
-  pub leads_there : (d : DeviceRow) (y : Option AdapterRow) → some d ≡ device_in x.devices p → y ≡ adapter_in x.adapters p o → leads_by x p o d y ≡ leads x p o
+  pub leads_there : (d : DeviceRow) (y : Option AdapterRow) → Some d ≡ device_in x.devices p → y ≡ adapter_in x.adapters p o → leads_by x p o d y ≡ leads x p o
   unfolding leads asked_device present bind
   leads_there d y e g = ap (leads_by x p o d) g ∙ ap (λ (z : Option DeviceRow). bind (present z) (λ v. leads_by x p o v (adapter_in x.adapters p o))) e
 
 -- from a device by an out adapter that was sought
-module _ (es : List EntryRow) (ad ro ma : List ℕ) (p o : ℕ) (k : InOrder ad ro) (d : DeviceRow) (there : some d ≡ device_in (devices_in ro ma) p) (r : LaneAt) (h : LaneSought ad p o r) where
+module _ (es : List EntryRow) (ad ro ma : List ℕ) (p o : ℕ) (k : InOrder ad ro) (d : DeviceRow) (there : Some d ≡ device_in (devices_in ro ma) p) (r : Option Bool) (h : LaneSought ad p o r) where
   abbrev at : Rows
   at = rows_with es ad ro ma
 
-  is_lane_lem : lane_found r ≡ lane_if (adapter_in (adapters_in ad) p o)
+  is_lane_lem : r ≡ lane_if (adapter_in (adapters_in ad) p o)
   is_lane_lem = h.first (device_fits ad ro ma p d k there) k.adapters
 
-  pub leads_nowhere : r ≡ lane.Nowhere → refusal_of (NoOutAdapter (adapter_site p o)) ≡ leads at p o
-  unfolding rows_with leads_by lane_found
-  leads_nowhere e = leads_there at p o d none there (lane_none (adapter_in (adapters_in ad) p o) (sym (ap lane_found e) ∙ is_lane_lem))
+  pub leads_nowhere : r ≡ None → refusal_of (NoOutAdapter (adapter_site p o)) ≡ leads at p o
+  unfolding rows_with leads_by
+  leads_nowhere e = leads_there at p o d None there (lane_none (adapter_in (adapters_in ad) p o) (sym (e) ∙ is_lane_lem))
 
-  pub leads_other : r ≡ lane.Other → value last ≡ leads at p o
-  unfolding rows_with leads_by lane_found
-  leads_other e = let y = lane_some (adapter_in (adapters_in ad) p o) false (sym (ap lane_found e) ∙ is_lane_lem) in from_other at p d y.0 y.2 ∙ leads_there at p o d (some y.0) there y.1
+  pub leads_other : r ≡ (Some false) → value last ≡ leads at p o
+  unfolding rows_with leads_by
+  leads_other e = let y = lane_some (adapter_in (adapters_in ad) p o) false (sym (e) ∙ is_lane_lem) in from_other at p d y.0 y.2 ∙ leads_there at p o d (Some y.0) there y.1
 
-  module _ (e : r ≡ lane.Lane) where
-    lane_is : (z : AdapterRow) × (some z ≡ adapter_in (adapters_in ad) p o) × (is_lane z.kind ≡ true)
-    unfolding lane_found
-    lane_is = lane_some (adapter_in (adapters_in ad) p o) true (sym (ap lane_found e) ∙ is_lane_lem)
+  module _ (e : r ≡ (Some true)) where
+    lane_is : (z : AdapterRow) × (Some z ≡ adapter_in (adapters_in ad) p o) × (is_lane z.kind ≡ true)
+    lane_is = lane_some (adapter_in (adapters_in ad) p o) true (sym (e) ∙ is_lane_lem)
 
     -- the out adapter's number is the one that is asked for
     by_number : (P : ℕ → Type 0) → P lane_is.0.number → P o
@@ -217,7 +212,7 @@ module _ (es : List EntryRow) (ad ro ma : List ℕ) (p o : ℕ) (k : InOrder ad 
 
     from_lane : leads_from at p d lane_is.0 ≡ leads at p o
     unfolding rows_with leads_by
-    from_lane = leads_there at p o d (some lane_is.0) there lane_is.1
+    from_lane = leads_there at p o d (Some lane_is.0) there lane_is.1
 
     pub leads_by_up : is_upstream d.upstream o ≡ true → bind (route_or (NoParentRoute (adapter_site p o)) (upstream_route d.route)) (λ r. to_route at d r (arrive_up at d)) ≡ leads at p o
     leads_by_up g = by_number (λ n. is_upstream d.upstream n ≡ true → bind (route_or (NoParentRoute (adapter_site p n)) (upstream_route d.route)) (λ r. to_route at d r (arrive_up at d)) ≡ leads at p o) (λ q. from_up at p d lane_is.0 lane_is.2 q ∙ from_lane) g

@@ -1,12 +1,9 @@
 -- Document 01, module 7: where a hop leads, on the rows of a loaded survey. Assumes nothing.
-use Rattle.std.specs.Prelude.{ℕ, cond}
-use Rattle.std.proofs.Math.Option.{Option, none, some}
+use Rattle.std.specs.Prelude.{Option, None, Some, ℕ, cond}
 use Rattle.refusal.specs.Outcome.{Outcome, value, bind}
 use Rattle.refusal.specs.Refusal.{refusal_of}
 use Rattle.refusal.specs.declared.Fault.TheVariants.{NoOutAdapter}
 use Rattle.route.specs.Route.{downstream_adapter}
-use Rattle.route.specs.declared.AdapterFound.{AdapterFound}
-use Rattle.route.specs.declared.AdapterFound.TheVariants as found
 use Rattle.adapter.specs.Adapter.{AdapterRow, adapter_site}
 use Rattle.tables.specs.Rows.{DeviceRow, Rows, adapter_in, device_in, router_from}
 use Rattle.load.specs.Answers.{asked_device}
@@ -20,42 +17,42 @@ pub data Way : Type 0 where
 
 -- at adapter n of the device at place q; a missing one gives no path at all
 unfoldable pub stand_by : ℕ → ℕ → Option AdapterRow → Way
-stand_by q n none = dropped
-stand_by q n (some y) = on q n
+stand_by q n None = dropped
+stand_by q n (Some y) = on q n
 
 unfoldable pub stand_at : Rows → ℕ → ℕ → Way
 stand_at x q n = stand_by q n (adapter_in x.adapters q n)
 
 -- up: `downstream_adapter`, the adapter of the router above, e, behind which d hangs
-unfoldable pub up_by : Rows → ℕ → AdapterFound → Way
-up_by x q found.None = dropped
-up_by x q (found.Adapter n) = stand_at x q n
+unfoldable pub up_by : Rows → ℕ → Option ℕ → Way
+up_by x q None = dropped
+up_by x q (Some n) = stand_at x q n
 
 unfoldable pub arrive_up : Rows → DeviceRow → ℕ → DeviceRow → Outcome Way
 arrive_up x d q e = value (up_by x q (downstream_adapter e.domain e.route d.domain d.route))
 
 -- down: the upstream adapter of the router below, or 6
 unfoldable pub down_by : Rows → ℕ → Option ℕ → Way
-down_by x q none = dropped
-down_by x q (some n) = stand_at x q n
+down_by x q None = dropped
+down_by x q (Some n) = stand_at x q n
 
 unfoldable pub arrive_down : Rows → ℕ → DeviceRow → Outcome Way
 arrive_down x q e = bind e.upstream (λ n. value (down_by x q n))
 
 -- a device's place and its row
 unfoldable pub to_device : ℕ → Option DeviceRow → (ℕ → DeviceRow → Outcome Way) → Outcome Way
-to_device q none f = value dropped
-to_device q (some e) f = f q e
+to_device q None f = value dropped
+to_device q (Some e) f = f q e
 
 -- the search for a router: none there, and the walk goes no further, this hop last
 unfoldable pub to_router : Rows → Option ℕ → (ℕ → DeviceRow → Outcome Way) → Outcome Way
-to_router x none f = value last
-to_router x (some q) f = to_device q (device_in x.devices q) f
+to_router x None f = value last
+to_router x (Some q) f = to_device q (device_in x.devices q) f
 
 -- the first router of the device's domain at a route; an adapter that is no lane has no route, and its hop is the last
 unfoldable pub to_route : Rows → DeviceRow → Option ℕ → (ℕ → DeviceRow → Outcome Way) → Outcome Way
-to_route x d none f = value last
-to_route x d (some r) f = to_router x (router_from 0 x.devices d.domain r) f
+to_route x d None f = value last
+to_route x d (Some r) f = to_router x (router_from 0 x.devices d.domain r) f
 
 -- from an out adapter: the upstream one leads up, or 11; any other down, or 12
 unfoldable pub leads_from : Rows → ℕ → DeviceRow → AdapterRow → Outcome Way
@@ -66,8 +63,8 @@ leads_from x p d y =
 
 -- 10 where the out adapter isn't on the router, with the missing number
 unfoldable pub leads_by : Rows → ℕ → ℕ → DeviceRow → Option AdapterRow → Outcome Way
-leads_by x p o d none = refusal_of (NoOutAdapter (adapter_site p o))
-leads_by x p o d (some y) = leads_from x p d y
+leads_by x p o d None = refusal_of (NoOutAdapter (adapter_site p o))
+leads_by x p o d (Some y) = leads_from x p d y
 
 -- where a hop from the device at place p by out adapter o leads
 unfoldable pub leads : Rows → ℕ → ℕ → Outcome Way

@@ -1,9 +1,10 @@
 -- Where a hop leads, on tables. Assumes nothing.
-use Rattle.std.specs.Prelude.{ℕ, ◌≤◌, ◌≡◌, List, length}
+use Rattle.std.specs.Prelude.{Result, Ok, Err, ℕ, ◌≤◌, ◌≡◌, List, length}
 use Rattle.refusal.specs.Outcome.{Outcome, value}
 use Rattle.tables.specs.Rows.{EntryRow, Rows}
 use Rattle.tables.specs.Packed.{adapters_in, devices_in, adapter_unit, Sorted}
-use Rattle.load.specs.Answers.{refused_by}
+use Rattle.refusal.specs.Refusal.{refused_by}
+use Rattle.refusal.specs.declared.Refusal.{Refusal}
 use Rattle.fabric.specs.Fabric.{Way, Way.on, Way.last, Way.dropped}
 use Rattle.fabric.specs.declared.Next.{Next}
 use Rattle.fabric.specs.declared.Next.TheVariants as next
@@ -17,13 +18,17 @@ pub record InOrder (ad ro : List ℕ) : Type 0 where
   pub adapters : Sorted adapter_unit ad
   pub devices : length ro ≤ 65536
 
+-- where a walk goes, as the definition says it
+abbrev pub way_of : Next → Way
+way_of (next.On q a) = on q a
+way_of next.Last = last
+way_of next.Dropped = dropped
+
 -- document 01's number and values for what is answered
-unfoldable pub next_outcome : Next → Outcome Way
-next_outcome (next.On q a) = value (on q a)
-next_outcome next.Last = value last
-next_outcome next.Dropped = value dropped
-next_outcome (next.Refused r) = refused_by r
+unfoldable pub next_outcome : Result Next Refusal → Outcome Way
+next_outcome (Ok n) = value (way_of n)
+next_outcome (Err r) = refused_by r
 
 -- In tables that are in order it is what f says of their rows. In any others it is free.
-pub record LeadsTo (ad ro ma : List ℕ) (f : Rows → Outcome Way) (r : Next) : Type 0 where
+pub record LeadsTo (ad ro ma : List ℕ) (f : Rows → Outcome Way) (r : Result Next Refusal) : Type 0 where
   pub leads_to : InOrder ad ro → (es : List EntryRow) → next_outcome r ≡ f (rows_with es ad ro ma)

@@ -2,7 +2,6 @@
 #![tactic(auto)]
 
 ghost use Rattle.std.specs.Prelude.{ℕ, ◌<◌, ◌≡◌};
-ghost use Rattle.std.proofs.Math.Option.{some};
 ghost use Rattle.refusal.specs.Outcome.{value, bind};
 ghost use Rattle.refusal.specs.declared.Site.{Site};
 ghost use Rattle.refusal.specs.declared.Fault.TheVariants.{NoParentRoute, NoDownstreamRoute};
@@ -13,47 +12,35 @@ ghost use Rattle.tables.specs.Packed.{Sorted, adapter_unit, adapters_in};
 ghost use Rattle.tables.specs.Found.{device_row, upstream_outcome};
 ghost use Rattle.fabric.specs.Links.{is_upstream, route_or};
 ghost use Rattle.fabric.specs.Fabric.{stand_by, arrive_up, arrive_down, to_route, leads};
-ghost use Rattle.fabric.specs.Tables.{next_outcome, LeadsTo};
+ghost use Rattle.fabric.specs.Tables.{way_of, LeadsTo};
 
-use load::Refusal;
-use refusal::{Fault, Site};
-use route::{AdapterFound, RouteFound};
-use search::LaneAt;
-use tables::{DeviceFacts, DeviceFound, RouterFound, Upstream};
+use refusal::{Fault, FieldError, Refusal, Site};
+use tables::DeviceFacts;
 
-// The route of an adapter, none, or what refuses it.
-#[derive(Clone, Copy)]
-pub enum RouteAnswer {
-    Route(u64),
-    None,
-    Refused(Refusal),
-}
-
-// Where a walk goes after a hop: on to an adapter of the device at a place; no further, this hop last; no path at all; or what refuses it.
+// Where a walk goes after a hop: on to an adapter of the device at a place; no further, this hop last; no path at all.
 #[derive(Clone, Copy)]
 pub enum Next {
     On { place: usize, adapter: u8 },
     Last,
     Dropped,
-    Refused(Refusal),
 }
 
 // Whether an adapter is its router's upstream adapter.
-fn is_upstream(upstream: Upstream, number: u8) -> bool
+fn is_upstream(upstream: Result<Option<u8>, FieldError>, number: u8) -> bool
     ensures { (s : Site) → result ≡ is_upstream (upstream_outcome s upstream) number }
 {
     match upstream {
-        Upstream::Adapter(a) => a == number,
-        Upstream::None => false,
-        Upstream::NoField => false,
+        Ok(Some(a)) => a == number,
+        Ok(None) => false,
+        Err(FieldError::NoField) => false,
     }
 }
 
 // At an adapter of the device at a place; a missing one gives no path at all.
 fn stand_at(adapters: &[u64], place: usize, number: u8) -> Next
-    ensures { Sorted adapter_unit adapters.now → place < 65536 → next_outcome result ≡ value (stand_by place number (adapter_in (adapters_in adapters.now) place number)) }
+    ensures { Sorted adapter_unit adapters.now → place < 65536 → way_of result ≡ stand_by place number (adapter_in (adapters_in adapters.now) place number) }
 {
-    if let LaneAt::Nowhere = search::find_lane(adapters, place, number) {
+    if let None = search::find_lane(adapters, place, number) {
         return Next::Dropped;
     }
     Next::On {
@@ -64,39 +51,44 @@ fn stand_at(adapters: &[u64], place: usize, number: u8) -> Next
 
 // Up to the first router at a route, at the adapter behind which the device hangs; none there, and this hop is the last.
 fn go_up(adapters: &[u64], routes: &[u64], marks: &[u64], d: DeviceFacts, route: u64) -> Next
-    ensures { (p : ℕ) → LeadsTo adapters.now routes.now marks.now (λ x. to_route x (device_row p d) (some route) (arrive_up x (device_row p d))) result }
+    ensures { (p : ℕ) → LeadsTo adapters.now routes.now marks.now (λ x. to_route x (device_row p d) (Some route) (arrive_up x (device_row p d))) (Ok result) }
 {
-    let RouterFound::Place(q) = routers::find_router(routes, marks, d.domain, route) else {
+    let Some(q) = routers::find_router(routes, marks, d.domain, route) else {
         return Next::Last;
     };
-    let DeviceFound::Device(e) = routers::find_device(routes, marks, q) else {
+    let Some(e) = routers::find_device(routes, marks, q) else {
         return Next::Dropped;
     };
-    let AdapterFound::Adapter(n) = route::downstream_adapter(e.domain, e.route, d.domain, d.route)
-    else {
+    let Some(n) = route::downstream_adapter(e.domain, e.route, d.domain, d.route) else {
         return Next::Dropped;
     };
     stand_at(adapters, q, n)
 }
 
 // Down to the first router at a route, at its upstream adapter, or 6; none there, and this hop is the last.
-fn go_down(adapters: &[u64], routes: &[u64], marks: &[u64], d: DeviceFacts, route: u64) -> Next
-    ensures { (p : ℕ) → LeadsTo adapters.now routes.now marks.now (λ x. to_route x (device_row p d) (some route) (arrive_down x)) result }
+fn go_down(
+    adapters: &[u64],
+    routes: &[u64],
+    marks: &[u64],
+    d: DeviceFacts,
+    route: u64,
+) -> Result<Next, Refusal>
+    ensures { (p : ℕ) → LeadsTo adapters.now routes.now marks.now (λ x. to_route x (device_row p d) (Some route) (arrive_down x)) result }
 {
-    let RouterFound::Place(q) = routers::find_router(routes, marks, d.domain, route) else {
-        return Next::Last;
+    let Some(q) = routers::find_router(routes, marks, d.domain, route) else {
+        return Ok(Next::Last);
     };
-    let DeviceFound::Device(e) = routers::find_device(routes, marks, q) else {
-        return Next::Dropped;
+    let Some(e) = routers::find_device(routes, marks, q) else {
+        return Ok(Next::Dropped);
     };
     let upstream = e.upstream;
     match upstream {
-        Upstream::None => Next::Dropped,
-        Upstream::NoField => Next::Refused(Refusal::Fault(Fault::NoField(Site {
+        Ok(None) => Ok(Next::Dropped),
+        Err(FieldError::NoField) => Err(Refusal::Fault(Fault::NoField(Site {
             place: q,
             adapter: 0,
         }))),
-        Upstream::Adapter(n) => stand_at(adapters, q, n),
+        Ok(Some(n)) => Ok(stand_at(adapters, q, n)),
     }
 }
 
@@ -108,16 +100,16 @@ fn leads_up(
     p: usize,
     d: DeviceFacts,
     number: u8,
-) -> Next
+) -> Result<Next, Refusal>
     ensures { LeadsTo adapters.now routes.now marks.now (λ x. bind (route_or (NoParentRoute (adapter_site p number)) (upstream_route d.route)) (λ o. to_route x (device_row p d) o (arrive_up x (device_row p d)))) result }
 {
-    let RouteFound::Route(route) = route::upstream_route(d.route) else {
-        return Next::Refused(Refusal::Fault(Fault::NoParentRoute(Site {
+    let Some(route) = route::upstream_route(d.route) else {
+        return Err(Refusal::Fault(Fault::NoParentRoute(Site {
             place: p,
             adapter: number,
         })));
     };
-    go_up(adapters, routes, marks, d, route)
+    Ok(go_up(adapters, routes, marks, d, route))
 }
 
 // From any other lane; 12 at depth 8.
@@ -128,11 +120,11 @@ fn leads_down(
     p: usize,
     d: DeviceFacts,
     number: u8,
-) -> Next
+) -> Result<Next, Refusal>
     ensures { LeadsTo adapters.now routes.now marks.now (λ x. bind (route_or (NoDownstreamRoute (adapter_site p number)) (downstream_route d.route number)) (λ o. to_route x (device_row p d) o (arrive_down x))) result }
 {
-    let RouteFound::Route(route) = route::downstream_route(d.route, number) else {
-        return Next::Refused(Refusal::Fault(Fault::NoDownstreamRoute(Site {
+    let Some(route) = route::downstream_route(d.route, number) else {
+        return Err(Refusal::Fault(Fault::NoDownstreamRoute(Site {
             place: p,
             adapter: number,
         })));
@@ -141,19 +133,25 @@ fn leads_down(
 }
 
 // Where a hop from the device at a place leads by an out adapter; 10 where that isn't on the router. By one that is no lane it is the last.
-pub fn leads(adapters: &[u64], routes: &[u64], marks: &[u64], place: usize, out_adapter: u8) -> Next
+pub fn leads(
+    adapters: &[u64],
+    routes: &[u64],
+    marks: &[u64],
+    place: usize,
+    out_adapter: u8,
+) -> Result<Next, Refusal>
     ensures { LeadsTo adapters.now routes.now marks.now (λ x. leads x place out_adapter) result }
 {
-    let DeviceFound::Device(d) = routers::find_device(routes, marks, place) else {
-        return Next::Refused(Refusal::Missing);
+    let Some(d) = routers::find_device(routes, marks, place) else {
+        return Err(Refusal::Missing);
     };
     match search::find_lane(adapters, place, out_adapter) {
-        LaneAt::Nowhere => Next::Refused(Refusal::Fault(Fault::NoOutAdapter(Site {
+        None => Err(Refusal::Fault(Fault::NoOutAdapter(Site {
             place,
             adapter: out_adapter,
         }))),
-        LaneAt::Other => Next::Last,
-        LaneAt::Lane => {
+        Some(false) => Ok(Next::Last),
+        Some(true) => {
             let upstream = d.upstream;
             if is_upstream(upstream, out_adapter) {
                 return leads_up(adapters, routes, marks, place, d, out_adapter);

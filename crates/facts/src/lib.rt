@@ -7,8 +7,8 @@ ghost use Rattle.state.specs.State.{speed_outcome};
 ghost use Rattle.adapter.specs.Adapter.{facts_row, max_hop_outcome};
 ghost use Rattle.tables.specs.Packed.{type_by, state_by, speed_by, number_by, adapter_word};
 
-use adapter::{Facts, MaxHop};
-use state::SpeedFound;
+use adapter::Facts;
+use refusal::FieldError;
 use usb4::{AdapterType, Speed, State};
 
 // A kind by its number.
@@ -86,36 +86,36 @@ fn state_by(number: u64) -> State
 }
 
 // A speed by its number, or that it is refused.
-fn speed_by(number: u64) -> SpeedFound
+fn speed_by(number: u64) -> Result<Speed, FieldError>
     ensures { (s : Site) → speed_outcome s result ≡ speed_by s number }
 {
     if number == 1 {
-        return SpeedFound::Speed(Speed::Gen2);
+        return Ok(Speed::Gen2);
     }
     if number == 2 {
-        return SpeedFound::Speed(Speed::Gen3);
+        return Ok(Speed::Gen3);
     }
     if number == 3 {
-        return SpeedFound::Speed(Speed::Gen4);
+        return Ok(Speed::Gen4);
     }
     if number == 4 {
-        return SpeedFound::NoField;
+        return Err(FieldError::NoField); // 6 where it is asked for
     }
-    SpeedFound::Speed(Speed::Unknown)
+    Ok(Speed::Unknown)
 }
 
 // A largest HopID by its code.
-fn max_hop_by(code: u64) -> MaxHop
+fn max_hop_by(code: u64) -> Result<Option<u32>, FieldError>
     requires { code < 1048576 }
     ensures { (s : Site) → max_hop_outcome s result ≡ number_by s code }
 {
     if code < 1 {
-        return MaxHop::None;
+        return Ok(None);
     }
     if code < 2 {
-        return MaxHop::NoField;
+        return Err(FieldError::NoField);
     }
-    MaxHop::Hop((code - 2) as u32)
+    Ok(Some((code - 2) as u32))
 }
 
 // The adapter that a word holds.

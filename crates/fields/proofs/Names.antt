@@ -1,4 +1,5 @@
 -- Laws of names and fields. Assumes nothing.
+use Rattle.std.specs.Prelude.{Option, None, Some}
 use Prim.Native.Nat.{ℕ, zero, suc, ◌+◌, ◌-◌, ◌/◌, ◌%◌, ◌≤◌, ◌<◌}
 use mathlib.Core.Path.{◌≡◌, refl, sym, ap, ◌∙◌}
 use mathlib.Core.List.{List, [], ◌∷◌}
@@ -13,9 +14,8 @@ use borrow.Author.Tests.{lt-ltb, le-ltb, eq-eqb, ne_eqb}
 use Rattle.layout.specs.Layout.{word, byte_at, bytes_from, name_bytes, size_of, is_register}
 use Rattle.layout.specs.Description.{Field, described, field_of, fields_of, fields_behind}
 use Rattle.layout.proofs.Laws.{one_less, Rest, rest_next, rest_end}
-use Rattle.fields.specs.Names.{lower, alike, name_is, field_is, find_field, one_bit, find_flag}
-use Rattle.fields.specs.declared.FieldFound.{FieldFound}
-use Rattle.fields.specs.declared.FieldFound.TheVariants.{Bits, Missing}
+use Rattle.fields.specs.Names.{lower, alike, name_is, field_is, find_field, one_bit, find_flag, bit_field}
+use Rattle.fields.specs.declared.BitField.{BitField}
 
 bytes_long : (t : List ℕ) (p j k : ℕ) → length (bytes_from t p j k) ≡ k
 unfolding bytes_from
@@ -120,12 +120,12 @@ pub fields_all : (t : List ℕ) (place : ℕ) (name : List ℕ) (s : ℕ) → s 
 unfolding fields_behind
 fields_all t place name s e = rw e (_, record { most = length t; enough = omega arith; is = refl }, refl)
 
-field_none : (t : List ℕ) (name : List ℕ) → find_field name (fields_of t []) ≡ Missing
+field_none : (t : List ℕ) (name : List ℕ) → find_field name (fields_of t []) ≡ None
 unfolding find_field fields_of
 field_none t name = refl
 
 module _ (t : List ℕ) (name : List ℕ) (p : ℕ) (ps : List ℕ) (w : ℕ) (e : w ≡ word t p) where
-  field_other : (w / 268435456 % 16 ≡ 2 → ⊥) → find_field name (fields_of t (p ∷ ps)) ≡ Missing
+  field_other : (w / 268435456 % 16 ≡ 2 → ⊥) → find_field name (fields_of t (p ∷ ps)) ≡ None
   unfolding find_field fields_of
   field_other n = rw (← e, ne_eqb (w / 268435456 % 16) 2 n) refl
 
@@ -133,11 +133,11 @@ module _ (t : List ℕ) (name : List ℕ) (p : ℕ) (ps : List ℕ) (w : ℕ) (e
   unfolding fields_of
   field_front k = rw (← e, eq-eqb (w / 268435456 % 16) 2 k) refl
 
-  field_bits : Bits (field_of t p).start (field_of t p).end ≡ Bits (w / 8388608 % 32) (w / 262144 % 32)
+  field_bits : bit_field (field_of t p).start (field_of t p).end ≡ bit_field (w / 8388608 % 32) (w / 262144 % 32)
   unfolding field_of
   field_bits = rw (← e) refl
 
-  field_here : w / 268435456 % 16 ≡ 2 → field_is name (field_of t p) ≡ true → find_field name (fields_of t (p ∷ ps)) ≡ Bits (w / 8388608 % 32) (w / 262144 % 32)
+  field_here : w / 268435456 % 16 ≡ 2 → field_is name (field_of t p) ≡ true → find_field name (fields_of t (p ∷ ps)) ≡ bit_field (w / 8388608 % 32) (w / 262144 % 32)
   unfolding find_field
   field_here k h = ap (λ z. find_field name z) (field_front k) ∙ rw h field_bits
 
@@ -149,14 +149,14 @@ module _ (t : List ℕ) (place : ℕ) (name : List ℕ) (i : ℕ) (h : Fields t 
   field_to : (r : List ℕ) → h.0 ≡ r → find_field name (fields_behind t place) ≡ find_field name (fields_of t r)
   field_to r e = h.2 ∙ ap (λ (z : List ℕ). find_field name (fields_of t z)) e
 
-  pub fields_end : length t ≤ i → Missing ≡ find_field name (fields_behind t place)
+  pub fields_end : length t ≤ i → None ≡ find_field name (fields_behind t place)
   fields_end l = sym (field_to _ (rest_end t i h.0 h.1 l) ∙ field_none t name)
 
   module _ (l : i < length t) (w : ℕ) (e : w ≡ word t i) where
-    pub fields_other : (w / 268435456 % 16 ≡ 2 → ⊥) → Missing ≡ find_field name (fields_behind t place)
+    pub fields_other : (w / 268435456 % 16 ≡ 2 → ⊥) → None ≡ find_field name (fields_behind t place)
     fields_other k = let n = rest_next t i h.0 h.1 l in sym (field_to _ n.here ∙ field_other t name i _ w e k)
 
-    pub fields_here : w / 268435456 % 16 ≡ 2 → field_is name (field_of t i) ≡ true → Bits (w / 8388608 % 32) (w / 262144 % 32) ≡ find_field name (fields_behind t place)
+    pub fields_here : w / 268435456 % 16 ≡ 2 → field_is name (field_of t i) ≡ true → bit_field (w / 8388608 % 32) (w / 262144 % 32) ≡ find_field name (fields_behind t place)
     fields_here k y = let n = rest_next t i h.0 h.1 l in sym (field_to _ n.here ∙ field_here t name i _ w e k y)
 
     pub fields_more : w / 268435456 % 16 ≡ 2 → field_is name (field_of t i) ≡ false → (s : ℕ) → s ≡ size_of w → Fields t place name (i + s)
@@ -165,20 +165,20 @@ module _ (t : List ℕ) (place : ℕ) (name : List ℕ) (i : ℕ) (h : Fields t 
         rw (z ∙ ap size_of e) (n.left, n.then, field_to _ n.here ∙ field_later t name i _ w e k y)
 
 -- a flag
-module _ (name : List ℕ) (fs : List Field) (f : FieldFound) (l : f ≡ find_field name fs) where
+module _ (name : List ℕ) (fs : List Field) (f : Option BitField) (l : f ≡ find_field name fs) where
   flag_of : find_flag name fs ≡ one_bit f
   unfolding find_flag
   flag_of = ap one_bit (sym l)
 
-  pub flag_missing : f ≡ Missing → Missing ≡ find_flag name fs
+  pub flag_missing : f ≡ None → None ≡ find_flag name fs
   unfolding one_bit
   flag_missing m = sym (flag_of ∙ ap one_bit m)
 
-  module _ (s e : ℕ) (m : f ≡ Bits s e) where
-    pub flag_wide : (s ≡ e → ⊥) → Missing ≡ find_flag name fs
+  module _ (d : BitField) (m : f ≡ Some d) where
+    pub flag_wide : (d.start ≡ d.end → ⊥) → None ≡ find_flag name fs
     unfolding one_bit
-    flag_wide n = sym (flag_of ∙ ap one_bit m ∙ rw (ne_eqb s e n) refl)
+    flag_wide n = sym (flag_of ∙ ap one_bit m ∙ rw (ne_eqb d.start d.end n) refl)
 
-    pub flag_bit : s ≡ e → Bits s e ≡ find_flag name fs
+    pub flag_bit : d.start ≡ d.end → Some d ≡ find_flag name fs
     unfolding one_bit
-    flag_bit n = sym (flag_of ∙ ap one_bit m ∙ rw (eq-eqb s e n) refl)
+    flag_bit n = sym (flag_of ∙ ap one_bit m ∙ rw (eq-eqb d.start d.end n) refl)

@@ -1,9 +1,8 @@
 -- Document 01, module 4: names, and fields by their names. Assumes nothing.
-use Rattle.std.specs.Prelude.{ℕ, ◌+◌, Bool, true, false, cond, ◌&&◌, ◌||◌, List, [], ◌∷◌, ltb, leb, eqb, length}
+use Rattle.std.specs.Prelude.{Option, None, Some, ℕ, ◌+◌, Bool, true, false, cond, ◌&&◌, ◌||◌, List, [], ◌∷◌, ltb, leb, eqb, length}
 use Rattle.layout.specs.Layout.{is_register}
 use Rattle.layout.specs.Description.{Field, described}
-use Rattle.fields.specs.declared.FieldFound.{FieldFound}
-use Rattle.fields.specs.declared.FieldFound.TheVariants.{Bits, Missing}
+use Rattle.fields.specs.declared.BitField.{BitField}
 
 -- A to Z as a to z
 unfoldable pub lower : ℕ → ℕ
@@ -24,15 +23,18 @@ name_is t i name = is_register t i && alike (described t i).name name
 unfoldable pub field_is : List ℕ → Field → Bool
 field_is name f = alike f.name name || (ltb 0 (length f.short) && alike f.short name)
 
+abbrev pub bit_field : ℕ → ℕ → Option BitField
+bit_field s e = Some (record { start = s; end = e })
+
 -- the first match counts: start and end of that field
-unfoldable pub find_field : List ℕ → List Field → FieldFound
-find_field name [] = Missing
-find_field name (f ∷ fs) = cond (field_is name f) (Bits f.start f.end) (find_field name fs)
+unfoldable pub find_field : List ℕ → List Field → Option BitField
+find_field name [] = None
+find_field name (f ∷ fs) = cond (field_is name f) (bit_field f.start f.end) (find_field name fs)
 
 -- a flag is a field of one bit
-unfoldable pub one_bit : FieldFound → FieldFound
-one_bit Missing = Missing
-one_bit (Bits s e) = cond (eqb s e) (Bits s e) Missing
+unfoldable pub one_bit : Option BitField → Option BitField
+one_bit None = None
+one_bit (Some f) = cond (eqb f.start f.end) (Some f) None
 
-unfoldable pub find_flag : List ℕ → List Field → FieldFound
+unfoldable pub find_flag : List ℕ → List Field → Option BitField
 find_flag name fs = one_bit (find_field name fs)

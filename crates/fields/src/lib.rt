@@ -8,9 +8,9 @@ ghost use Rattle.fields.specs.Names.{lower, alike, name_is, field_is, find_field
 
 // A field's start and end bit.
 #[derive(Clone, Copy)]
-pub enum FieldFound {
-    Bits { start: u32, end: u32 },
-    Missing,
+pub struct BitField {
+    pub start: u32,
+    pub end: u32,
 }
 
 // A to Z as a to z.
@@ -76,38 +76,36 @@ fn field_is(t: &[u32], i: usize, name: &[u8]) -> bool
 }
 
 // The first field with the name, of those behind the register group at a place. The words need not be well formed; where no register's head stands, the word there is taken as one.
-pub fn find_field(descriptions: &[u32], place: usize, name: &[u8]) -> FieldFound
+pub fn find_field(descriptions: &[u32], place: usize, name: &[u8]) -> Option<BitField>
     ensures { result ≡ find_field name.now (fields_behind descriptions.now place) }
 {
     if descriptions.len() <= place {
-        return FieldFound::Missing;
+        return None;
     }
     let mut i = place + layout::group_size(layout::word_at(descriptions, place));
     while i < descriptions.len() {
         let w = layout::word_at(descriptions, i);
         if w / 268435456 % 16 != 2 {
-            return FieldFound::Missing;
+            return None;
         }
         if field_is(descriptions, i, name) {
-            return FieldFound::Bits {
+            return Some(BitField {
                 start: w / 8388608 % 32,
                 end: w / 262144 % 32,
-            };
+            });
         }
         i += layout::group_size(w);
     }
-    FieldFound::Missing
+    None
 }
 
 // The same for a flag: a field of one bit.
-pub fn find_flag(descriptions: &[u32], place: usize, name: &[u8]) -> FieldFound
+pub fn find_flag(descriptions: &[u32], place: usize, name: &[u8]) -> Option<BitField>
     ensures { result ≡ find_flag name.now (fields_behind descriptions.now place) }
 {
-    let FieldFound::Bits { start, end } = find_field(descriptions, place, name) else {
-        return FieldFound::Missing;
-    };
-    if start != end {
-        return FieldFound::Missing;
+    let field = find_field(descriptions, place, name)?;
+    if field.start != field.end {
+        return None;
     }
-    FieldFound::Bits { start, end }
+    Some(field)
 }

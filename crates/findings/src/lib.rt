@@ -2,24 +2,20 @@
 #![tactic(auto)]
 
 ghost use Rattle.std.specs.Prelude.{◌≡◌};
-ghost use Rattle.parents.specs.Parents.{parent_outcome};
-ghost use Rattle.path.specs.Put.{walk_outcome};
-ghost use Rattle.discovery.specs.Answers.{tunnels_outcome};
 ghost use Rattle.answers.specs.Said.{said, perhaps, one};
 ghost use Rattle.findings.specs.Findings.{hop_count_words};
+ghost use Rattle.refusal.specs.Refusal.{outcome};
 
-use discovery::TunnelsAnswer;
-use parents::ParentAnswer;
-use path::WalkAnswer;
+use refusal::Refusal;
 
 // A parent's place, or none.
-pub fn parent(answer: ParentAnswer) -> [u64; 8]
-    ensures { result ≡ said (perhaps one (parent_outcome answer)) }
+pub fn parent(answer: Result<Option<usize>, Refusal>) -> [u64; 8]
+    ensures { result ≡ said (perhaps one (outcome answer)) }
 {
     match answer {
-        ParentAnswer::Place(p) => [0, 1, p as u64, 0, 0, 0, 0, 0],
-        ParentAnswer::None => [0; 8],
-        ParentAnswer::Refused(refusal) => replies::refused(refusal),
+        Ok(Some(p)) => [0, 1, p as u64, 0, 0, 0, 0, 0],
+        Ok(None) => [0; 8], // no parent
+        Err(refusal) => answers::refused(refusal),
     }
 }
 
@@ -34,25 +30,23 @@ fn words_of(hops: usize) -> u64
 }
 
 // The words of a path, or none.
-pub fn walk(answer: WalkAnswer) -> [u64; 8]
-    ensures { result ≡ said (perhaps hop_count_words (walk_outcome answer)) }
+pub fn walk(answer: Result<Option<usize>, Refusal>) -> [u64; 8]
+    ensures { result ≡ said (perhaps hop_count_words (outcome answer)) }
 {
     match answer {
-        WalkAnswer::Path(n) => [0, 1, words_of(n), 0, 0, 0, 0, 0],
-        WalkAnswer::Absent => [0; 8],
-        WalkAnswer::Short(n) => [2, n as u64, 0, 0, 0, 0, 0, 0],
-        WalkAnswer::Refused(refusal) => replies::refused(refusal),
+        Ok(Some(n)) => [0, 1, words_of(n), 0, 0, 0, 0, 0],
+        Ok(None) => [0; 8], // no path
+        Err(refusal) => answers::refused(refusal),
     }
 }
 
 // The words of a list of tunnels, or that there is none.
-pub fn tunnels(answer: TunnelsAnswer) -> [u64; 8]
-    ensures { result ≡ said (perhaps one (tunnels_outcome answer)) }
+pub fn tunnels(answer: Result<Option<usize>, Refusal>) -> [u64; 8]
+    ensures { result ≡ said (perhaps one (outcome answer)) }
 {
     match answer {
-        TunnelsAnswer::Words(n) => [0, 1, n as u64, 0, 0, 0, 0, 0],
-        TunnelsAnswer::Absent => [0; 8],
-        TunnelsAnswer::Short(n) => [2, n as u64, 0, 0, 0, 0, 0, 0],
-        TunnelsAnswer::Refused(refusal) => replies::refused(refusal),
+        Ok(Some(n)) => [0, 1, n as u64, 0, 0, 0, 0, 0],
+        Ok(None) => [0; 8], // no list
+        Err(refusal) => answers::refused(refusal),
     }
 }

@@ -1,4 +1,6 @@
 -- Laws on what a line leads to, and on what the lines of a text come to. Assumes nothing.
+use Rattle.std.proofs.lemmas.Option.{same_Some}
+use Rattle.std.specs.Prelude.{Err, None, Ok, Option, Result, Some}
 use Prim.Native.Nat.{ℕ, ◌+◌, ◌-◌, ◌<◌, ◌≤◌}
 use native.Mathlib.Omega.{arith}
 use mathlib.Core.Path.{◌≡◌, refl, ◌∙◌, ap, sym}
@@ -11,19 +13,17 @@ use Rattle.scan.specs.Scan.{is_line_feed, is_high, place_from}
 use Rattle.register.specs.Line.{meaning}
 use Rattle.register.specs.declared.Register.{Register}
 use Rattle.register.specs.declared.Skip.{Skip}
-use Rattle.register.specs.declared.Met.TheVariants.{Record, Skipped}
 use Rattle.markers.specs.Markers.{Marker, Marker.router, Marker.xdomain, Marker.usb4, Marker.regs, Marker.adapter, Marker.paths, Marker.no_paths, Marker.bad, is_marker, marker_of, marker_by}
 use Rattle.markers.specs.declared.Mark.{Mark}
 use Rattle.grammar.specs.Grammar.{Item, Item.marker, Item.record', Item.other, item_by, item_of, step_of, in_dump, item_step, marker_size, item_size, check_by, check_from, items_of, in_limit, check_answer}
-use Rattle.grammar.specs.Work.{with_words, advance_of, lines_outcome}
+use Rattle.grammar.specs.Work.{with_words, advance_of}
 use Rattle.grammar.specs.declared.Under.{Under}
 use Rattle.grammar.specs.declared.Under.TheVariants as under
-use Rattle.grammar.specs.declared.Step.{Step}
-use Rattle.grammar.specs.declared.Step.TheVariants as step
-use Rattle.grammar.specs.declared.Advance.TheVariants as advance
-use Rattle.grammar.specs.declared.Lines.{Lines}
-use Rattle.grammar.specs.declared.Lines.TheVariants as lines
+use Rattle.grammar.specs.Work as advance
 use Rattle.grammar.proofs.Laws.{items_at, items_end}
+use Rattle.refusal.specs.Refusal.{outcome}
+use Rattle.refusal.specs.declared.Refusal.{Refusal}
+use Rattle.refusal.proofs.Laws.{ended, gone_on}
 
 -- no byte is no marker
 pub no_marker : (l : List ℕ) → length l < 1 → false ≡ is_marker l
@@ -33,15 +33,15 @@ no_marker (b ∷ l) h = absurd (omega arith)
 
 -- where a line leads: a marker, a record, or another
 module _ (l : List ℕ) (u : Under) where
-  pub lead_marker : is_marker l ≡ true → (m : Mark) → marker_by m ≡ marker_of l → (n : ℕ) → n ≡ marker_size (marker_by m) → (s : Step) → s ≡ step_of (marker_by m) u → with_words n s ≡ advance_of l u
+  pub lead_marker : is_marker l ≡ true → (m : Mark) → marker_by m ≡ marker_of l → (n : ℕ) → n ≡ marker_size (marker_by m) → (s : Option Under) → s ≡ step_of (marker_by m) u → with_words n s ≡ advance_of l u
   unfolding advance_of item_of item_step item_size
   lead_marker t m e n p s q = simp (p, q, e, t)
 
-  pub lead_record : is_marker l ≡ false → (r : Register) → meaning l ≡ Record r → (s : Step) → s ≡ in_dump u → with_words 4 s ≡ advance_of l u
+  pub lead_record : is_marker l ≡ false → (r : Register) → meaning l ≡ Ok r → (s : Option Under) → s ≡ in_dump u → with_words 4 s ≡ advance_of l u
   unfolding advance_of item_of item_by item_step item_size
   lead_record t r e s q = simp (q, t, e)
 
-  pub lead_other : is_marker l ≡ false → (w : Skip) → meaning l ≡ Skipped w → advance.On u 0 ≡ advance_of l u
+  pub lead_other : is_marker l ≡ false → (w : Skip) → meaning l ≡ Err w → advance.on u 0 ≡ advance_of l u
   unfolding advance_of item_of item_by item_step item_size with_words
   lead_other t w e = simp (t, e)
 
@@ -65,36 +65,36 @@ item_four other = omega arith
 
 -- a line that leads on, and one that is wrong
 module _ (l : List ℕ) (u : Under) where
-  pub words_four : (v : Under) (n : ℕ) → advance_of l u ≡ advance.On v n → n ≤ 4
+  pub words_four : (v : Under) (n : ℕ) → advance_of l u ≡ advance.on v n → n ≤ 4
   unfolding advance_of with_words
   words_four v n e = on (item_step (item_of l) u) e
     where
-      on : (s : Step) → with_words (item_size (item_of l)) s ≡ advance.On v n → n ≤ 4
-      on (step.On w) e = let z : item_size (item_of l) ≡ n = cc in omega (arith, item_four (item_of l))
-      on step.Wrong e = let z : ◌≡◌ {A = ℕ} 0 1 = cc in omega arith
+      on : (s : Option Under) → with_words (item_size (item_of l)) s ≡ advance.on v n → n ≤ 4
+      on (Some w) e = let z : item_size (item_of l) ≡ n = ap (λ a. a.words) (same_Some _ _ e) in omega (arith, item_four (item_of l))
+      on None e = let z : ◌≡◌ {A = ℕ} 0 1 = cc in omega arith
 
-  pub check_on : (made : ℕ) (is : List Item) (v : Under) (n : ℕ) → advance_of l u ≡ advance.On v n → check_from made u (item_of l ∷ is) ≡ check_from (made + n) v is
+  pub check_on : (made : ℕ) (is : List Item) (v : Under) (n : ℕ) → advance_of l u ≡ advance.on v n → check_from made u (item_of l ∷ is) ≡ check_from (made + n) v is
   unfolding advance_of with_words check_from check_by
   check_on made is v n e = on (item_step (item_of l) u) e
     where
-      on : (s : Step) → with_words (item_size (item_of l)) s ≡ advance.On v n → check_by made (λ w. check_from (made + item_size (item_of l)) w is) s ≡ check_from (made + n) v is
-      on (step.On w) e = let z : item_size (item_of l) ≡ n = cc in let y : w ≡ v = cc in rw (z, y)
-      on step.Wrong e = let z : ◌≡◌ {A = ℕ} 0 1 = cc in absurd (omega arith)
+      on : (s : Option Under) → with_words (item_size (item_of l)) s ≡ advance.on v n → check_by made (λ w. check_from (made + item_size (item_of l)) w is) s ≡ check_from (made + n) v is
+      on (Some w) e = let z : item_size (item_of l) ≡ n = ap (λ a. a.words) (same_Some _ _ e) in let y : w ≡ v = ap (λ a. a.under) (same_Some _ _ e) in rw (z, y)
+      on None e = let z : ◌≡◌ {A = ℕ} 0 1 = cc in absurd (omega arith)
 
-  pub check_wrong : (made : ℕ) (is : List Item) → advance_of l u ≡ advance.Wrong → check_from made u (item_of l ∷ is) ≡ refused 4 (made ∷ [])
+  pub check_wrong : (made : ℕ) (is : List Item) → advance_of l u ≡ None → check_from made u (item_of l ∷ is) ≡ refused 4 (made ∷ [])
   unfolding advance_of with_words check_from check_by
   check_wrong made is e = on (item_step (item_of l) u) e
     where
-      on : (s : Step) → with_words (item_size (item_of l)) s ≡ advance.Wrong → check_by made (λ w. check_from (made + item_size (item_of l)) w is) s ≡ refused 4 (made ∷ [])
-      on (step.On w) e = let z : ◌≡◌ {A = ℕ} 0 1 = cc in absurd (omega arith)
-      on step.Wrong e = refl
+      on : (s : Option Under) → with_words (item_size (item_of l)) s ≡ None → check_by made (λ w. check_from (made + item_size (item_of l)) w is) s ≡ refused 4 (made ∷ [])
+      on (Some w) e = let z : ◌≡◌ {A = ℕ} 0 1 = cc in absurd (omega arith)
+      on None e = refl
 
 -- one line more of a text: what is left gives the same
 module _ (t : List ℕ) (at e : ℕ) (ends : e ≡ place_from is_line_feed t at) (here : at < length t) (made : ℕ) (u : Under) {w : Outcome ℕ} (same : check_from made u (items_of (drop at t)) ≡ w) where
-  pub turn_on : (v : Under) (n : ℕ) → advance_of (take (e - at) (drop at t)) u ≡ advance.On v n → check_from (made + n) v (items_of (drop (e + 1) t)) ≡ w
+  pub turn_on : (v : Under) (n : ℕ) → advance_of (take (e - at) (drop at t)) u ≡ advance.on v n → check_from (made + n) v (items_of (drop (e + 1) t)) ≡ w
   turn_on v n q = sym (ap (λ is. check_from made u is) (items_at t at e ends here) ∙ check_on (take (e - at) (drop at t)) u made (items_of (drop (e + 1) t)) v n q) ∙ same
 
-  pub turn_wrong : advance_of (take (e - at) (drop at t)) u ≡ advance.Wrong → refused 4 (made ∷ []) ≡ w
+  pub turn_wrong : advance_of (take (e - at) (drop at t)) u ≡ None → refused 4 (made ∷ []) ≡ w
   turn_wrong q = sym (ap (λ is. check_from made u is) (items_at t at e ends here) ∙ check_wrong (take (e - at) (drop at t)) u made (items_of (drop (e + 1) t)) q) ∙ same
 
 -- no line more
@@ -122,19 +122,16 @@ module _ (t : List ℕ) where
     unfolding check_answer
     not_ascii h = simp (le-ltb 65536 (length t) short, sym first, lt-ltb p (length t) h)
 
-    module _ (ascii : length t ≤ p) (r : Lines) (all : lines_outcome r ≡ check_from 0 under.Nothing (items_of t)) where
-      by_lines : bind (lines_outcome r) in_limit ≡ check_answer t
+    module _ (ascii : length t ≤ p) (r : Result ℕ Refusal) (all : outcome r ≡ check_from 0 under.Nothing (items_of t)) where
+      by_lines : bind (outcome r) in_limit ≡ check_answer t
       unfolding check_answer
       by_lines = simp (le-ltb 65536 (length t) short, sym first, le-ltb p (length t) ascii, all)
 
-      pub wrong_line : (made : ℕ) → r ≡ lines.Wrong made → refused 4 (made ∷ []) ≡ check_answer t
-      unfolding lines_outcome bind
-      wrong_line made e = sym (ap (λ q. bind (lines_outcome q) in_limit) e) ∙ by_lines
+      pub wrong_line : (e : Refusal) → r ≡ Err e → outcome (Err e) ≡ check_answer t
+      wrong_line e k = ended r (outcome r) refl in_limit e k ∙ by_lines
 
-      pub many_words : (n : ℕ) → r ≡ lines.Words n → 16384 < n → refused 4 (16384 ∷ []) ≡ check_answer t
-      unfolding lines_outcome bind
-      many_words n e h = sym (ap (λ q. bind (lines_outcome q) in_limit) e ∙ over_limit n h) ∙ by_lines
+      pub many_words : (n : ℕ) → r ≡ Ok n → 16384 < n → refused 4 (16384 ∷ []) ≡ check_answer t
+      many_words n e h = sym (gone_on r (outcome r) refl in_limit n e ∙ over_limit n h) ∙ by_lines
 
-      pub all_words : (n : ℕ) → r ≡ lines.Words n → n ≤ 16384 → value n ≡ check_answer t
-      unfolding lines_outcome bind
-      all_words n e h = sym (ap (λ q. bind (lines_outcome q) in_limit) e ∙ within_limit n h) ∙ by_lines
+      pub all_words : (n : ℕ) → r ≡ Ok n → n ≤ 16384 → value n ≡ check_answer t
+      all_words n e h = sym (gone_on r (outcome r) refl in_limit n e ∙ within_limit n h) ∙ by_lines

@@ -2,28 +2,27 @@
 #![tactic(auto)]
 
 ghost use Rattle.std.specs.Prelude.{◌*◌, ◌%◌, ◌≡◌, ◌&&◌, leb, eqb};
-ghost use Rattle.adapter.specs.Adapter.{min_hop, hop_outcome};
+ghost use Rattle.adapter.specs.Adapter.{min_hop};
 
-use adapter::HopFound;
 use usb4::AdapterType;
 
 // The least HopID of an adapter of a kind.
-pub fn min_hop(kind: AdapterType) -> HopFound
-    ensures { hop_outcome result ≡ min_hop kind }
+pub fn min_hop(kind: AdapterType) -> Option<u32>
+    ensures { result ≡ min_hop kind }
 {
     match kind {
-        AdapterType::Unknown => HopFound::None,
-        AdapterType::Inactive => HopFound::None,
-        AdapterType::Lane => HopFound::Hop(8),
-        AdapterType::HostInterface => HopFound::Hop(1),
-        AdapterType::DisplayPortIn => HopFound::Hop(8),
-        AdapterType::DisplayPortOut => HopFound::Hop(8),
-        AdapterType::PcieDown => HopFound::Hop(8),
-        AdapterType::PcieUp => HopFound::Hop(8),
-        AdapterType::Usb3Down => HopFound::Hop(8),
-        AdapterType::Usb3Up => HopFound::Hop(8),
-        AdapterType::Usb3GenTDown => HopFound::Hop(8),
-        AdapterType::Usb3GenTUp => HopFound::Hop(8),
+        AdapterType::Unknown => None,
+        AdapterType::Inactive => None,
+        AdapterType::Lane => Some(8),
+        AdapterType::HostInterface => Some(1),
+        AdapterType::DisplayPortIn => Some(8),
+        AdapterType::DisplayPortOut => Some(8),
+        AdapterType::PcieDown => Some(8),
+        AdapterType::PcieUp => Some(8),
+        AdapterType::Usb3Down => Some(8),
+        AdapterType::Usb3Up => Some(8),
+        AdapterType::Usb3GenTDown => Some(8),
+        AdapterType::Usb3GenTUp => Some(8),
     }
 }
 

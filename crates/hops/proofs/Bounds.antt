@@ -4,7 +4,7 @@ use native.Mathlib.Omega.{arith}
 use mathlib.Core.Path.{◌≡◌, refl, ap}
 use mathlib.Core.Bool.{Bool, true, false, cond, not, ◌&&◌, ◌||◌}
 use mathlib.Core.List.{List, [], ◌∷◌, ◌++◌, map}
-use mathlib.Core.Option.{Option, none, some}
+use Rattle.std.specs.Prelude.{Option, None, Some}
 use lib.Dec.{ltb, leb, eqb}
 use lib.ListN.{length, length-append, length-map}
 use borrow.Author.Tests.{ltb-false}
@@ -136,22 +136,22 @@ record Read (n : ℕ) (es : List PathEntry) : Type 0 where
   count : length es ≤ n
 
 abbrev OneRead : Option PathEntry → Type 0
-OneRead none = 0 ≤ 0
-OneRead (some e) = (e.in_hop < 65536) × (e.out_adapter < 256) × (e.out_hop < 65536)
+OneRead None = 0 ≤ 0
+OneRead (Some e) = (e.in_hop < 65536) × (e.out_adapter < 256) × (e.out_hop < 65536)
 
 one_read : (s : Site) (r : Register) (d : Option Description) → r.offset < 65536 → Holds OneRead (entry_of s r d)
 unfolding entry_of entry_in
 one_read s r d l = holds_bind (wanted_flag s r d (bytes_of "Valid")) (λ valid. entry_in s r d valid) holds_any (λ valid z. by_flag d valid)
   where
     by_flag : (d : Option Description) (valid : Bool) → Holds OneRead (entry_in s r d valid)
-    by_flag none valid = holds_value (omega arith)
-    by_flag (some d) false = holds_value (omega arith)
-    by_flag (some d) true = holds_bind _ _ holds_any (λ hop z. holds_bind _ _ holds_any (λ out z. holds_value (omega arith, omega arith, omega arith)))
+    by_flag None valid = holds_value (omega arith)
+    by_flag (Some d) false = holds_value (omega arith)
+    by_flag (Some d) true = holds_bind _ _ holds_any (λ hop z. holds_bind _ _ holds_any (λ out z. holds_value (omega arith, omega arith, omega arith)))
 
 with_read : (n : ℕ) (e : Option PathEntry) (es : List PathEntry) → OneRead e → Read n es → Read (suc n) (with_entry e es)
 unfolding with_entry
-with_read n none es h k = record { narrow = k.narrow; count = omega (arith, k.count) }
-with_read n (some e) es h k = record { narrow = (h.0, h.1, h.2, k.narrow); count = omega (arith, k.count) }
+with_read n None es h k = record { narrow = k.narrow; count = omega (arith, k.count) }
+with_read n (Some e) es h k = record { narrow = (h.0, h.1, h.2, k.narrow); count = omega (arith, k.count) }
 
 module _ (ds : List Description) (s : Site) (k least : ℕ) where
   read_from : (rs : List Register) → Offsets rs → Holds (Read (length rs)) (entries_from ds s k least rs)
@@ -168,8 +168,8 @@ unfolding entries_of entries_by
 read_of ds s a h = by_least (min_hop (kind_of a))
   where
     by_least : (m : Option ℕ) → Holds (Read (length a.entries)) (entries_by ds s (type_number (kind_of a)) a.entries m)
-    by_least none = holds_value (record { narrow = omega arith; count = omega arith })
-    by_least (some least) = read_from ds s (type_number (kind_of a)) least a.entries h
+    by_least None = holds_value (record { narrow = omega arith; count = omega arith })
+    by_least (Some least) = read_from ds s (type_number (kind_of a)) least a.entries h
 
 -- ---- rows
 

@@ -4,7 +4,7 @@ use native.Mathlib.Omega.{arith}
 use mathlib.Core.Path.{◌≡◌, refl, sym, ap, ◌∙◌, subst}
 use mathlib.Core.Bool.{Bool, true, false, cond, true≢false}
 use mathlib.Core.List.{List, [], ◌∷◌}
-use mathlib.Core.Option.{Option, none, some}
+use Rattle.std.specs.Prelude.{Option, None, Some, Err, Ok, Result}
 use lib.Dec.{ltb}
 use lib.ListN.{length}
 use borrow.Author.Tests.{lt-ltb, le-ltb}
@@ -12,86 +12,84 @@ use Rattle.refusal.specs.Outcome.{Outcome, refused, value, bind}
 use Rattle.adapter.specs.Adapter.{AdapterRow}
 use Rattle.tables.specs.Rows.{EntryRow, Rows}
 use Rattle.load.specs.Loading.{loaded}
-use Rattle.load.specs.Answers.{refused_by, asked_adapter}
-use Rattle.load.specs.declared.Refusal.{Refusal}
+use Rattle.load.specs.Answers.{asked_adapter}
+use Rattle.refusal.specs.Refusal.{refused_by}
+use Rattle.refusal.specs.declared.Refusal.{Refusal}
 use Rattle.orbit.specs.Walk.{hops_n}
 use Rattle.walk.specs.Walking.{Stand, walk_on}
 use Rattle.walk.specs.Rule.{walk_from, in_room, PathRule, WalkRule}
 use Rattle.walk.proofs.Laws.{walk_ends, Hopped, hopped, path_rule}
 use Rattle.path.specs.Words.{words_needed, with_path, output_by}
-use Rattle.path.specs.Put.{walk_outcome}
-use Rattle.path.specs.declared.WalkAnswer.{WalkAnswer}
-use Rattle.path.specs.declared.WalkAnswer.TheVariants as walk
 use Rattle.path.proofs.Writing.{length_path_words, refused_as_lem}
 use Rattle.walks.specs.Calls.{single, path_answer, walk_answer, WalkDone}
-use Rattle.hops.specs.Records.{records_needed, with_records, records_by, hops_outcome, is_path}
+use Rattle.hops.specs.Records.{records_needed, with_records, records_by, is_path}
 use Rattle.hops.specs.Calls.{hops_answer, HopsDone}
 use Rattle.hops.specs.Records.{filled}
 use Rattle.hops.specs.Work.{Ready}
 use Rattle.hops.specs.declared.Hop.{Hop}
-use Rattle.hops.specs.declared.HopsAnswer.{HopsAnswer}
-use Rattle.hops.specs.declared.HopsAnswer.TheVariants as answer
 use Rattle.hops.proofs.Words.{Path, walk_path, filled_path}
+use Rattle.refusal.specs.Refusal.{outcome}
+use Rattle.refusal.specs.declared.Refusal.TheVariants as refusal
 
 -- ---- what the room makes of a walk
 
 -- a number of hops answers a path; 13 answers 13 alone
-pub room_some : (need : List EntryRow → ℕ) (room n : ℕ) (o : Outcome (Option (List EntryRow))) → bind o (in_room need room) ≡ value (some n) → (hs : List EntryRow) × (o ≡ value (some hs)) × (length hs ≡ n) × (ltb room (need hs) ≡ false)
+pub room_some : (need : List EntryRow → ℕ) (room n : ℕ) (o : Outcome (Option (List EntryRow))) → bind o (in_room need room) ≡ value (Some n) → (hs : List EntryRow) × (o ≡ value (Some hs)) × (length hs ≡ n) × (ltb room (need hs) ≡ false)
 unfolding bind in_room
 room_some need room n (refused k vs) q = absurd (let z : ◌≡◌ {A = ℕ} 0 1 = cc in omega arith)
-room_some need room n (value none) q = absurd (let z : ◌≡◌ {A = ℕ} 0 1 = cc in omega arith)
-room_some need room n (value (some hs)) q = go (ltb room (need hs)) refl q
+room_some need room n (value None) q = absurd (let z : ◌≡◌ {A = ℕ} 0 1 = cc in omega arith)
+room_some need room n (value (Some hs)) q = go (ltb room (need hs)) refl q
   where
-    go : (b : Bool) → ltb room (need hs) ≡ b → cond b (refused 2 (need hs ∷ [])) (value (some (length hs))) ≡ value (some n) → (ks : List EntryRow) × (value (some hs) ≡ value (some ks)) × (length ks ≡ n) × (ltb room (need ks) ≡ false)
+    go : (b : Bool) → ltb room (need hs) ≡ b → cond b (refused 2 (need hs ∷ [])) (value (Some (length hs))) ≡ value (Some n) → (ks : List EntryRow) × (value (Some hs) ≡ value (Some ks)) × (length ks ≡ n) × (ltb room (need ks) ≡ false)
     go true e p = absurd (let z : ◌≡◌ {A = ℕ} 0 1 = cc in omega arith)
     go false e p = (hs, refl, cc, e)
 
 room_ring : (need : List EntryRow → ℕ) (room : ℕ) (o : Outcome (Option (List EntryRow))) → bind o (in_room need room) ≡ refused 13 [] → o ≡ refused 13 []
 unfolding bind in_room
 room_ring need room (refused k vs) q = cc
-room_ring need room (value none) q = absurd (let z : ◌≡◌ {A = ℕ} 0 1 = cc in omega arith)
-room_ring need room (value (some hs)) q = absurd (go (ltb room (need hs)) q)
+room_ring need room (value None) q = absurd (let z : ◌≡◌ {A = ℕ} 0 1 = cc in omega arith)
+room_ring need room (value (Some hs)) q = absurd (go (ltb room (need hs)) q)
   where
-    go : (b : Bool) → cond b (refused 2 (need hs ∷ [])) (value (some (length hs))) ≡ refused 13 [] → ⊥
+    go : (b : Bool) → cond b (refused 2 (need hs ∷ [])) (value (Some (length hs))) ≡ refused 13 [] → ⊥
     go true p = let z : ◌≡◌ {A = ℕ} 2 13 = cc in omega arith
     go false p = let z : ◌≡◌ {A = ℕ} 0 1 = cc in omega arith
 
-room_none : (need : List EntryRow → ℕ) (room : ℕ) (o : Outcome (Option (List EntryRow))) → bind o (in_room need room) ≡ value none → o ≡ value none
+room_none : (need : List EntryRow → ℕ) (room : ℕ) (o : Outcome (Option (List EntryRow))) → bind o (in_room need room) ≡ value None → o ≡ value None
 unfolding bind in_room
 room_none need room (refused k vs) q = absurd (let z : ◌≡◌ {A = ℕ} 0 1 = cc in omega arith)
-room_none need room (value none) q = refl
-room_none need room (value (some hs)) q = absurd (go (ltb room (need hs)) q)
+room_none need room (value None) q = refl
+room_none need room (value (Some hs)) q = absurd (go (ltb room (need hs)) q)
   where
-    go : (b : Bool) → cond b (refused 2 (need hs ∷ [])) (value (some (length hs))) ≡ value none → ⊥
+    go : (b : Bool) → cond b (refused 2 (need hs ∷ [])) (value (Some (length hs))) ≡ value None → ⊥
     go true p = let z : ◌≡◌ {A = ℕ} 0 1 = cc in omega arith
     go false p = let z : ◌≡◌ {A = ℕ} 0 1 = cc in omega arith
 
 -- where there is room for every path, what is refused was refused before
-room_refused : (need : List EntryRow → ℕ) (room k : ℕ) (vs : List ℕ) (o : Outcome (Option (List EntryRow))) → ((hs : List EntryRow) → o ≡ value (some hs) → ltb room (need hs) ≡ false) → bind o (in_room need room) ≡ refused k vs → o ≡ refused k vs
+room_refused : (need : List EntryRow → ℕ) (room k : ℕ) (vs : List ℕ) (o : Outcome (Option (List EntryRow))) → ((hs : List EntryRow) → o ≡ value (Some hs) → ltb room (need hs) ≡ false) → bind o (in_room need room) ≡ refused k vs → o ≡ refused k vs
 unfolding bind in_room
 room_refused need room k vs (refused n us) h q = cc
-room_refused need room k vs (value none) h q = absurd (let z : ◌≡◌ {A = ℕ} 0 1 = cc in omega arith)
-room_refused need room k vs (value (some hs)) h q = absurd (go (ltb room (need hs)) (h hs refl) q)
+room_refused need room k vs (value None) h q = absurd (let z : ◌≡◌ {A = ℕ} 0 1 = cc in omega arith)
+room_refused need room k vs (value (Some hs)) h q = absurd (go (ltb room (need hs)) (h hs refl) q)
   where
-    go : (b : Bool) → b ≡ false → cond b (refused 2 (need hs ∷ [])) (value (some (length hs))) ≡ refused k vs → ⊥
+    go : (b : Bool) → b ≡ false → cond b (refused 2 (need hs ∷ [])) (value (Some (length hs))) ≡ refused k vs → ⊥
     go true e p = true≢false e
     go false e p = let z : ◌≡◌ {A = ℕ} 0 1 = cc in omega arith
 
 -- ---- records by their number
 
-in_records : (room : ℕ) (hs : List EntryRow) → length hs ≤ room → bind (value (some hs)) (in_room records_needed room) ≡ value (some (length hs))
+in_records : (room : ℕ) (hs : List EntryRow) → length hs ≤ room → bind (value (Some hs)) (in_room records_needed room) ≡ value (Some (length hs))
 unfolding bind in_room records_needed
-in_records room hs l = ap (λ (b : Bool). cond b (refused 2 (length hs ∷ [])) (value (some (length hs)))) (le-ltb room (length hs) l)
+in_records room hs l = ap (λ (b : Bool). cond b (refused 2 (length hs ∷ [])) (value (Some (length hs)))) (le-ltb room (length hs) l)
 
-past_records : (room : ℕ) (hs : List EntryRow) → room < length hs → bind (value (some hs)) (in_room records_needed room) ≡ refused 2 (length hs ∷ [])
+past_records : (room : ℕ) (hs : List EntryRow) → room < length hs → bind (value (Some hs)) (in_room records_needed room) ≡ refused 2 (length hs ∷ [])
 unfolding bind in_room records_needed
-past_records room hs l = ap (λ (b : Bool). cond b (refused 2 (length hs ∷ [])) (value (some (length hs)))) (lt-ltb room (length hs) l)
+past_records room hs l = ap (λ (b : Bool). cond b (refused 2 (length hs ∷ [])) (value (Some (length hs)))) (lt-ltb room (length hs) l)
 
-by_records : (hs : List EntryRow) (old : List Hop) → length hs ≤ length old → records_by (value (some hs)) old ≡ with_records hs old
+by_records : (hs : List EntryRow) (old : List Hop) → length hs ≤ length old → records_by (value (Some hs)) old ≡ with_records hs old
 unfolding records_by records_needed
 by_records hs old l = ap (λ (b : Bool). cond b old (with_records hs old)) (le-ltb (length old) (length hs) l)
 
-by_none : (hs : List EntryRow) (old : List Hop) → length old < length hs → records_by (value (some hs)) old ≡ old
+by_none : (hs : List EntryRow) (old : List Hop) → length old < length hs → records_by (value (Some hs)) old ≡ old
 unfolding records_by records_needed
 by_none hs old l = ap (λ (b : Bool). cond b old (with_records hs old)) (lt-ltb (length old) (length hs) l)
 
@@ -99,7 +97,7 @@ by_none hs old l = ap (λ (b : Bool). cond b old (with_records hs old)) (lt-ltb 
 
 module _ (x : Rows) (s : Stand) (need need' : List EntryRow → ℕ) (room room' : ℕ) (Wrote Wrote' : List EntryRow → Type 0) (o o' : Outcome (Option ℕ)) where
   pub another_room : WalkRule x s need room Wrote o → o ≡ bind (walk_from x s) (in_room need room) → o' ≡ bind (walk_from x s) (in_room need' room')
-      → ((hs : List EntryRow) (n : ℕ) → walk_from x s ≡ value (some hs) → o' ≡ value (some n) → Wrote' hs) → WalkRule x s need' room' Wrote' o'
+      → ((hs : List EntryRow) (n : ℕ) → walk_from x s ≡ value (Some hs) → o' ≡ value (Some n) → Wrote' hs) → WalkRule x s need' room' Wrote' o'
   unfolding bind
   another_room w q q' wrote = record {
     bounded = w.bounded;
@@ -116,7 +114,7 @@ module _ (x : Rows) (s : Stand) (need need' : List EntryRow → ℕ) (room room'
       back : o ≡ refused 13 [] → o' ≡ refused 13 []
       back p = q' ∙ ap (λ (z : Outcome (Option (List EntryRow))). bind z (in_room need' room')) (room_ring need room (walk_from x s) (sym q ∙ p))
 
-      to_path : (n : ℕ) → o' ≡ value (some n) → (hs : List EntryRow) × (walk_from x s ≡ value (some hs)) × (length hs ≡ n) × (ltb room' (need' hs) ≡ false) → PathRule x s n × Wrote' (hops_n (walk_on x) s n)
+      to_path : (n : ℕ) → o' ≡ value (Some n) → (hs : List EntryRow) × (walk_from x s ≡ value (Some hs)) × (length hs ≡ n) × (ltb room' (need' hs) ≡ false) → PathRule x s n × Wrote' (hops_n (walk_on x) s n)
       to_path n p (hs, f, l, z) = subst (λ (m : ℕ). PathRule x s m × Wrote' (hops_n (walk_on x) s m)) (sym h.long ∙ l) (path_rule x s h.count h.one h.ends, subst Wrote' (sym h.hops) (wrote hs n f p))
         where
           h : Hopped x s hs
@@ -130,21 +128,21 @@ unfolding path_answer bind
 answered t v s x y l a = ap (λ (o : Outcome Rows). bind o (λ z. bind (asked_adapter z s.place s.adapter) (λ u. walk_from z s))) l ∙ ap (λ (o : Outcome AdapterRow). bind o (λ u. walk_from x s)) a
 
 -- a path that is answered is that of a walk
-path_of_lem : (t v : List ℕ) (s : Stand) (hs : List EntryRow) → path_answer t v s ≡ value (some hs) → Path hs
+path_of_lem : (t v : List ℕ) (s : Stand) (hs : List EntryRow) → path_answer t v s ≡ value (Some hs) → Path hs
 unfolding path_answer bind
 path_of_lem t v s hs q = go (loaded t v) refl q
   where
-    walked : (x : Rows) → loaded t v ≡ value x → (o : Outcome AdapterRow) → bind o (λ u. walk_from x s) ≡ value (some hs) → Path hs
+    walked : (x : Rows) → loaded t v ≡ value x → (o : Outcome AdapterRow) → bind o (λ u. walk_from x s) ≡ value (Some hs) → Path hs
     walked x l (refused n vs) p = absurd (let z : ◌≡◌ {A = ℕ} 0 1 = cc in omega arith)
     walked x l (value y) p = walk_path t v x s hs l p
 
-    go : (o : Outcome Rows) → loaded t v ≡ o → bind o (λ x. bind (asked_adapter x s.place s.adapter) (λ u. walk_from x s)) ≡ value (some hs) → Path hs
+    go : (o : Outcome Rows) → loaded t v ≡ o → bind o (λ x. bind (asked_adapter x s.place s.adapter) (λ u. walk_from x s)) ≡ value (Some hs) → Path hs
     go (refused n vs) l p = absurd (let z : ◌≡◌ {A = ℕ} 0 1 = cc in omega arith)
     go (value x) l p = walked x l (asked_adapter x s.place s.adapter) p
 
-module _ (t v : List ℕ) (s : Stand) (out : List ℕ) (r : WalkAnswer) (out' : List ℕ) (w : WalkDone t v s out r out') where
+module _ (t v : List ℕ) (s : Stand) (out : List ℕ) (r : Result (Option ℕ) Refusal) (out' : List ℕ) (w : WalkDone t v s out r out') where
   -- the rule follows from the equations
-  done : (records : List Hop) (a : HopsAnswer) (records' : List Hop) → hops_outcome a ≡ hops_answer t v s (length records) → records' ≡ records_by (path_answer t v s) records → (is_path a ≡ false → records' ≡ records) → HopsDone t v s records a records'
+  done : (records : List Hop) (a : Result (Option ℕ) Refusal) (records' : List Hop) → outcome a ≡ hops_answer t v s (length records) → records' ≡ records_by (path_answer t v s) records → (is_path a ≡ false → records' ≡ records) → HopsDone t v s records a records'
   unfolding hops_answer walk_answer records_by
   done records a records' q e k = record {
     answers = q;
@@ -152,23 +150,23 @@ module _ (t v : List ℕ) (s : Stand) (out : List ℕ) (r : WalkAnswer) (out' : 
     kept = k;
     walks = λ x y l b.
         let same = answered t v s x y l b in
-        another_room x s (words_needed single) records_needed (length out) (length records) _ _ (walk_outcome r) (hops_outcome a) (w.walks x y l b)
+        another_room x s (words_needed single) records_needed (length out) (length records) _ _ (outcome r) (outcome a) (w.walks x y l b)
         (w.answers ∙ ap (λ (o : Outcome (Option (List EntryRow))). bind o (in_room (words_needed single) (length out))) same)
         (q ∙ ap (λ (o : Outcome (Option (List EntryRow))). bind o (in_room records_needed (length records))) same)
         (λ hs n f p. wrote hs n (same ∙ f) p);
   }
     where
-      wrote : (hs : List EntryRow) (n : ℕ) → path_answer t v s ≡ value (some hs) → hops_outcome a ≡ value (some n) → records' ≡ with_records hs records
+      wrote : (hs : List EntryRow) (n : ℕ) → path_answer t v s ≡ value (Some hs) → outcome a ≡ value (Some n) → records' ≡ with_records hs records
       wrote hs n f p =
           let z = room_some records_needed (length records) n (path_answer t v s) (sym q ∙ p) in
           let same : z.0 ≡ hs = cc z.1 in
           e ∙ ap (λ (o : Outcome (Option (List EntryRow))). records_by o records) f ∙ ap (λ (b : Bool). cond b records (with_records hs records)) (subst (λ (ks : List EntryRow). ltb (length records) (records_needed ks) ≡ false) same z.3)
 
   -- a path: so does the call answer, or it is short of records
-  module _ (n : ℕ) (g : r ≡ walk.Path n) where
-    pub path_told : (hs : List EntryRow) × (path_answer t v s ≡ value (some hs)) × (length hs ≡ n) × (ltb (length out) (words_needed single hs) ≡ false)
-    unfolding walk_answer walk_outcome
-    path_told = room_some (words_needed single) (length out) n (path_answer t v s) (sym w.answers ∙ ap walk_outcome g)
+  module _ (n : ℕ) (g : r ≡ Ok (Some n)) where
+    pub path_told : (hs : List EntryRow) × (path_answer t v s ≡ value (Some hs)) × (length hs ≡ n) × (ltb (length out) (words_needed single hs) ≡ false)
+    unfolding walk_answer
+    path_told = room_some (words_needed single) (length out) n (path_answer t v s) (sym w.answers ∙ ap outcome g)
 
     words_told : out' ≡ with_path single path_told.0 out
     unfolding output_by
@@ -179,41 +177,41 @@ module _ (t v : List ℕ) (s : Stand) (out : List ℕ) (r : WalkAnswer) (out' : 
         ap (λ (ws : List ℕ). filled ws n records) words_told ∙ ap (λ (m : ℕ). filled (with_path single path_told.0 out) m records) (sym path_told.2)
         ∙ filled_path single path_told.0 out records (path_of_lem t v s path_told.0 path_told.1).fit (omega (arith, path_told.2))
 
-    pub ready_path : (room : ℕ) → n ≤ room → Ready t v s room (answer.Path n) n out'
-    unfolding hops_outcome hops_answer is_path
+    pub ready_path : (room : ℕ) → n ≤ room → Ready t v s room (Ok (Some n)) n out'
+    unfolding hops_answer is_path
     ready_path room l = record {
       fits = l;
-      done = λ records e. done records (answer.Path n) (filled out' n records)
-          (ap (λ (m : ℕ). value (some m)) (sym path_told.2) ∙ sym (in_records (length records) path_told.0 (omega (arith, path_told.2))) ∙ sym (ap (λ (o : Outcome (Option (List EntryRow))). bind o (in_room records_needed (length records))) path_told.1))
+      done = λ records e. done records (Ok (Some n)) (filled out' n records)
+          (ap (λ (m : ℕ). value (Some m)) (sym path_told.2) ∙ sym (in_records (length records) path_told.0 (omega (arith, path_told.2))) ∙ sym (ap (λ (o : Outcome (Option (List EntryRow))). bind o (in_room records_needed (length records))) path_told.1))
           (path_filled records (omega arith) ∙ sym (by_records path_told.0 records (omega (arith, path_told.2))) ∙ sym (ap (λ (o : Outcome (Option (List EntryRow))). records_by o records) path_told.1))
           (λ q. absurd (true≢false q));
     }
 
-    pub ready_short : (room : ℕ) → room < n → Ready t v s room (answer.Short n) 0 out'
-    unfolding hops_outcome hops_answer filled
+    pub ready_short : (room : ℕ) → room < n → Ready t v s room (Err (refusal.Short n)) 0 out'
+    unfolding hops_answer filled
     ready_short room l = record {
       fits = omega arith;
-      done = λ records e. done records (answer.Short n) records
+      done = λ records e. done records (Err (refusal.Short n)) records
           (ap (λ (m : ℕ). refused 2 (m ∷ [])) (sym path_told.2) ∙ sym (past_records (length records) path_told.0 (omega (arith, path_told.2))) ∙ sym (ap (λ (o : Outcome (Option (List EntryRow))). bind o (in_room records_needed (length records))) path_told.1))
           (sym (by_none path_told.0 records (omega (arith, path_told.2))) ∙ sym (ap (λ (o : Outcome (Option (List EntryRow))). records_by o records) path_told.1))
           (λ q. refl);
     }
 
   -- no path, and a refusal: so the call answers too, for the core has words for every path
-  pub ready_absent : r ≡ walk.Absent → (room : ℕ) → Ready t v s room answer.Absent 0 out'
-  unfolding walk_answer walk_outcome hops_outcome hops_answer filled records_by bind in_room
+  pub ready_absent : r ≡ (Ok None) → (room : ℕ) → Ready t v s room (Ok None) 0 out'
+  unfolding walk_answer hops_answer filled records_by bind in_room
   ready_absent g room = record {
     fits = omega arith;
-    done = λ records e. done records answer.Absent records
+    done = λ records e. done records (Ok None) records
         (sym (ap (λ (o : Outcome (Option (List EntryRow))). bind o (in_room records_needed (length records))) q))
         (sym (ap (λ (o : Outcome (Option (List EntryRow))). records_by o records) q))
         (λ z. refl);
   }
     where
-      q : path_answer t v s ≡ value none
-      q = room_none (words_needed single) (length out) (path_answer t v s) (sym w.answers ∙ ap walk_outcome g)
+      q : path_answer t v s ≡ value None
+      q = room_none (words_needed single) (length out) (path_answer t v s) (sym w.answers ∙ ap outcome g)
 
-  refuses : length out ≡ 8193 → (room : ℕ) (a : HopsAnswer) (k : ℕ) (vs : List ℕ) → walk_outcome r ≡ refused k vs → hops_outcome a ≡ refused k vs → Ready t v s room a 0 out'
+  refuses : length out ≡ 8193 → (room : ℕ) (a : Result (Option ℕ) Refusal) (k : ℕ) (vs : List ℕ) → outcome r ≡ refused k vs → outcome a ≡ refused k vs → Ready t v s room a 0 out'
   unfolding walk_answer hops_answer filled records_by bind in_room
   refuses big room a k vs f h = record {
     fits = omega arith;
@@ -228,10 +226,5 @@ module _ (t v : List ℕ) (s : Stand) (out : List ℕ) (r : WalkAnswer) (out' : 
           (λ hs p. le-ltb (length out) (words_needed single hs) (omega (arith, length_path_words single hs, (path_of_lem t v s hs p).few)))
           (sym w.answers ∙ f)
 
-  pub ready_two : length out ≡ 8193 → (n : ℕ) → r ≡ walk.Short n → (room : ℕ) → Ready t v s room (answer.Short n) 0 out'
-  unfolding walk_outcome hops_outcome
-  ready_two big n g room = refuses big room (answer.Short n) 2 (n ∷ []) (ap walk_outcome g) refl
-
-  pub ready_refused : length out ≡ 8193 → (x : Refusal) → r ≡ walk.Refused x → (room : ℕ) → Ready t v s room (answer.Refused x) 0 out'
-  unfolding walk_outcome hops_outcome
-  ready_refused big x g room = let z = refused_as_lem (refused_by x) x refl in refuses big room (answer.Refused x) z.0 z.1 (ap walk_outcome g ∙ z.2) z.2
+  pub ready_refused : length out ≡ 8193 → (x : Refusal) → r ≡ Err x → (room : ℕ) → Ready t v s room (Err x) 0 out'
+  ready_refused big x g room = let z = refused_as_lem (refused_by x) x refl in refuses big room (Err x) z.0 z.1 (ap outcome g ∙ z.2) z.2

@@ -1,10 +1,12 @@
 -- The records of a path's words: the hops of an accepted survey, read back from the words that the core writes of them. Assumes nothing.
+use Rattle.std.specs.Option.{option_to_list}
 use Prim.Native.Nat.{ℕ, zero, suc, ◌+◌, ◌*◌, ◌-◌, ◌/◌, ◌%◌, ◌≤◌, ◌<◌}
 use native.Mathlib.Omega.{arith}
 use mathlib.Core.Path.{◌≡◌, refl, sym, ap, ◌∙◌, subst}
 use mathlib.Core.Bool.{Bool, true, false, cond, ◌&&◌}
-use mathlib.Core.List.{List, [], ◌∷◌, ◌++◌, map, Option-to_list}
-use mathlib.Core.Option.{Option, none, some, none-ne-some}
+use mathlib.Core.List.{List, [], ◌∷◌, ◌++◌, map}
+use Rattle.std.specs.Prelude.{Option, None, Some}
+use Rattle.std.proofs.lemmas.Option.{none-some}
 use lib.Dec.{eqb}
 use lib.ListN.{length, get_or, take, drop, set, length-append, length-map, length-drop, length-set, get_or-map}
 use lib.Seq.{take-suc, take_at, drop_at, drop-drop, set_split, append_snoc, length-take-le, take-length}
@@ -24,23 +26,23 @@ use Rattle.hops.proofs.Bounds.{Fits, AllFit, fit_append, entries_fit, entries_fe
 
 -- ---- a walk's hops are entries
 
-entry_fits : (es : List EntryRow) (p a h : ℕ) (e : EntryRow) → AllFit es → entry_in es p a h ≡ some e → Fits e
+entry_fits : (es : List EntryRow) (p a h : ℕ) (e : EntryRow) → AllFit es → entry_in es p a h ≡ Some e → Fits e
 unfolding entry_in
-entry_fits [] p a h e f q = absurd (none-ne-some e q)
+entry_fits [] p a h e f q = absurd (none-some e q)
 entry_fits (y ∷ es) p a h e f q = go (eqb y.device p && eqb y.adapter a && eqb y.in_hop h) (λ r. entry_fits es p a h e f.1 r) q
   where
-    go : (b : Bool) → (entry_in es p a h ≡ some e → Fits e) → cond b (some y) (entry_in es p a h) ≡ some e → Fits e
+    go : (b : Bool) → (entry_in es p a h ≡ Some e → Fits e) → cond b (Some y) (entry_in es p a h) ≡ Some e → Fits e
     go true ih r = let z : y ≡ e = cc in subst Fits z f.0
     go false ih r = ih r
 
 module _ (x : Rows) (f : AllFit x.entries) where
   here_fits : (z : Spot Stand End) → AllFit (hop_here (walk_on x) z)
-  unfolding hop_here walk_on Option-to_list
+  unfolding hop_here walk_on
   here_fits (stand y) = go (entry_in x.entries y.place y.adapter y.hop_id) refl
     where
-      go : (o : Option EntryRow) → entry_in x.entries y.place y.adapter y.hop_id ≡ o → AllFit (Option-to_list o)
-      go none e = omega arith
-      go (some h) e = (entry_fits x.entries _ _ _ h f e, omega arith)
+      go : (o : Option EntryRow) → entry_in x.entries y.place y.adapter y.hop_id ≡ o → AllFit (option_to_list o)
+      go None e = omega arith
+      go (Some h) e = (entry_fits x.entries _ _ _ h f e, omega arith)
   here_fits (ended e) = omega arith
   here_fits stopped = omega arith
 
@@ -54,7 +56,7 @@ pub record Path (hs : List EntryRow) : Type 0 where
   pub fit : AllFit hs
   pub few : length hs ≤ 4096
 
-pub walk_path : (t v : List ℕ) (x : Rows) (s : Stand) (hs : List EntryRow) → loaded t v ≡ value x → walk_from x s ≡ value (some hs) → Path hs
+pub walk_path : (t v : List ℕ) (x : Rows) (s : Stand) (hs : List EntryRow) → loaded t v ≡ value x → walk_from x s ≡ value (Some hs) → Path hs
 walk_path t v x s hs l q = record {
   fit = subst AllFit h.hops (hops_fit x (entries_fit t v x l) s h.count);
   few = omega (arith, h.long, ends_within (walk_on x) (valid_entries x) (ranked x) s h.ends, entries_few t v x l);

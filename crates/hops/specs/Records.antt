@@ -1,12 +1,10 @@
 -- Document 01, the list of hop records: a single walk's hops as records. Assumes nothing.
-use Rattle.std.specs.Prelude.{ℕ, zero, suc, ◌+◌, ◌*◌, ◌-◌, ◌/◌, ◌%◌, Bool, true, false, cond, List, [], ◌∷◌, ◌++◌, map, ltb, length, drop, get_or, set}
-use Rattle.std.proofs.Math.Option.{Option, none, some}
+use Rattle.std.specs.Prelude.{ℕ, zero, suc, ◌+◌, ◌*◌, ◌-◌, ◌/◌, ◌%◌, Bool, true, false, cond, List, [], ◌∷◌, ◌++◌, map, ltb, length, drop, get_or, set, Option, None, Some, Err, Ok, Result}
 use Rattle.refusal.specs.Outcome.{Outcome, refused, value}
 use Rattle.tables.specs.Rows.{EntryRow}
-use Rattle.load.specs.Answers.{refused_by}
 use Rattle.hops.specs.declared.Hop.{Hop}
-use Rattle.hops.specs.declared.HopsAnswer.{HopsAnswer}
-use Rattle.hops.specs.declared.HopsAnswer.TheVariants as answer
+use Rattle.refusal.specs.declared.Refusal.{Refusal}
+use Rattle.refusal.specs.declared.Refusal.TheVariants as refusal
 
 -- place, in adapter, in HopID, out adapter, out HopID
 unfoldable pub record_of : EntryRow → Hop
@@ -22,21 +20,13 @@ with_records hs old = map record_of hs ++ drop (length hs) old
 -- the records as they were, but where a path is answered
 unfoldable pub records_by : Outcome (Option (List EntryRow)) → List Hop → List Hop
 records_by (refused n vs) old = old
-records_by (value none) old = old
-records_by (value (some hs)) old = cond (ltb (length old) (records_needed hs)) old (with_records hs old)
+records_by (value None) old = old
+records_by (value (Some hs)) old = cond (ltb (length old) (records_needed hs)) old (with_records hs old)
 
--- document 01's number and values for what is answered
-unfoldable pub hops_outcome : HopsAnswer → Outcome (Option ℕ)
-hops_outcome (answer.Path n) = value (some n)
-hops_outcome answer.Absent = value none
-hops_outcome (answer.Short n) = refused 2 (n ∷ [])
-hops_outcome (answer.Refused r) = refused_by r
-
-unfoldable pub is_path : HopsAnswer → Bool
-is_path (answer.Path n) = true
-is_path answer.Absent = false
-is_path (answer.Short n) = false
-is_path (answer.Refused r) = false
+unfoldable pub is_path : Result (Option ℕ) Refusal → Bool
+is_path (Ok (Some n)) = true
+is_path (Ok None) = false
+is_path (Err r) = false
 
 -- the record of hop i of a path's result words: a path word, then two words a hop; a place stands below the kind, 10
 unfoldable pub hop_at : List ℕ → ℕ → Hop

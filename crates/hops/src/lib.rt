@@ -7,8 +7,7 @@ ghost use Rattle.hops.specs.Calls.{HopsDone};
 ghost use Rattle.hops.specs.Records.{hop_at, filled};
 ghost use Rattle.hops.specs.Work.{Ready};
 
-use load::Refusal;
-use path::WalkAnswer;
+use refusal::Refusal;
 
 // A hop: where it was made, and where it leads.
 #[derive(Clone, Copy)]
@@ -20,19 +19,10 @@ pub struct Hop {
     pub out_hop: u16,
 }
 
-// How many hops a path has, no path, the records needed (2), or another refusal.
-#[derive(Clone, Copy)]
-pub enum HopsAnswer {
-    Path(usize),
-    Absent,
-    Short(usize),
-    Refused(Refusal),
-}
-
 // A walk's answer for a list of records, how many of them are written, and the core's words: no path has more than 4,096 hops.
 #[derive(Drop)]
 struct Walked {
-    answer: HopsAnswer,
+    answer: Result<Option<usize>, Refusal>,
     count: usize,
     words: [u32; 8193],
 }
@@ -90,32 +80,27 @@ fn walk_for(
     let mut words = [0; 8193];
     let walked = walks::discover_path(descriptions, survey, place, adapter, hop, &mut words);
     match walked {
-        WalkAnswer::Path(n) => {
+        Ok(Some(n)) => {
             if room < n {
                 return Walked {
-                    answer: HopsAnswer::Short(n),
+                    answer: Err(Refusal::Short(n)),
                     count: 0,
                     words,
                 };
             }
             Walked {
-                answer: HopsAnswer::Path(n),
+                answer: Ok(Some(n)),
                 count: n,
                 words,
             }
         }
-        WalkAnswer::Absent => Walked {
-            answer: HopsAnswer::Absent,
+        Ok(None) => Walked {
+            answer: Ok(None),
             count: 0,
             words,
         },
-        WalkAnswer::Short(n) => Walked {
-            answer: HopsAnswer::Short(n),
-            count: 0,
-            words,
-        },
-        WalkAnswer::Refused(refusal) => Walked {
-            answer: HopsAnswer::Refused(refusal),
+        Err(refusal) => Walked {
+            answer: Err(refusal),
             count: 0,
             words,
         },
@@ -130,7 +115,7 @@ pub fn hop_records(
     adapter: u8,
     hop: u16,
     records: &mut [Hop],
-) -> HopsAnswer
+) -> Result<Option<usize>, Refusal>
     ensures { HopsDone descriptions.now survey.now (record { place = place; adapter = adapter; hop_id = hop }) records.old result records.new }
 {
     let walked = walk_for(descriptions, survey, place, adapter, hop, records.len());

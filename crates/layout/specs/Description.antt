@@ -1,6 +1,5 @@
 -- Document 01, "Words": the descriptions that a list of words is. Assumes nothing.
-use Rattle.std.specs.Prelude.{ℕ, ◌+◌, cond, List, [], ◌∷◌, map, eqb, length}
-use Rattle.std.proofs.Math.Option.{Option, none, some}
+use Rattle.std.specs.Prelude.{ℕ, ◌+◌, cond, List, [], ◌∷◌, map, eqb, length, Option, None, Some}
 use Rattle.layout.specs.Layout.{word, kind, space, has_cap, has_vs, name_len, offset, cap_id, vs_id, listed, kinds, start, end, field_len, short_len, name_at, field_at, short_at, name_bytes, size_of, heads_from, registers}
 
 -- a field: bits start to end, its name, and its short name, empty for none
@@ -23,7 +22,7 @@ pub record Description : Type 0 where
 
 -- what is had where its bit is set
 unfoldable pub had : ℕ → ℕ → Option ℕ
-had bit v = cond (eqb bit 1) (some v) none
+had bit v = cond (eqb bit 1) (Some v) None
 
 unfoldable pub field_of : List ℕ → ℕ → Field
 field_of t i = record {

@@ -1,4 +1,5 @@
 -- Laws on whether an adapter is its router's upstream adapter, by what the router's facts say. Assumes nothing.
+use Rattle.std.specs.Prelude.{Err, None, Ok, Option, Result, Some}
 use Prim.Native.Nat.{ℕ}
 use mathlib.Core.Path.{◌≡◌, ap}
 use mathlib.Core.Bool.{false}
@@ -6,19 +7,19 @@ use lib.Dec.{eqb}
 use Rattle.refusal.specs.Refusal.{refusal_of}
 use Rattle.refusal.specs.declared.Site.{Site}
 use Rattle.tables.specs.Found.{upstream_outcome}
-use Rattle.tables.specs.declared.Upstream.{Upstream}
-use Rattle.tables.specs.declared.Upstream.TheVariants as upstream
 use Rattle.fabric.specs.Links.{is_upstream}
+use Rattle.refusal.specs.declared.FieldError.{FieldError}
+use Rattle.refusal.specs.declared.FieldError.TheVariants as field
 
-module _ (s : Site) (n : ℕ) (u : Upstream) where
-  pub none_upstream : u ≡ upstream.None → is_upstream (upstream_outcome s u) n ≡ false
+module _ (s : Site) (n : ℕ) (u : Result (Option ℕ) FieldError) where
+  pub none_upstream : u ≡ (Ok None) → is_upstream (upstream_outcome s u) n ≡ false
   unfolding is_upstream upstream_outcome
   none_upstream e = ap (λ v. is_upstream (upstream_outcome s v) n) e
 
-  pub no_field_upstream : u ≡ upstream.NoField → is_upstream (upstream_outcome s u) n ≡ false
+  pub no_field_upstream : u ≡ (Err field.NoField) → is_upstream (upstream_outcome s u) n ≡ false
   unfolding is_upstream upstream_outcome refusal_of
   no_field_upstream e = ap (λ v. is_upstream (upstream_outcome s v) n) e
 
-  pub upstream_by_lem : (a : ℕ) → u ≡ upstream.Adapter a → is_upstream (upstream_outcome s u) n ≡ eqb a n
+  pub upstream_by_lem : (a : ℕ) → u ≡ Ok (Some a) → is_upstream (upstream_outcome s u) n ≡ eqb a n
   unfolding is_upstream upstream_outcome
   upstream_by_lem a e = ap (λ v. is_upstream (upstream_outcome s v) n) e

@@ -1,4 +1,5 @@
 -- Surveys one after another: they load part by part, where the second begins with a device, at the places behind the first. Assumes nothing.
+use Rattle.std.specs.Prelude.{None, Option, Some}
 use Prim.Native.Nat.{ℕ, suc, ◌+◌, ◌≤◌}
 use native.Mathlib.Omega.{arith}
 use native.Mathlib.Nat.{add-zero, zero-add, add_assoc}
@@ -17,8 +18,6 @@ use Rattle.survey.specs.Rules.{max_words, start, step_by, size_by, on_step, firs
 use Rattle.survey.specs.Devices.{Adapter, Device, Gathered, register_in, with_register, with_adapter, with_device, with_group, gather, devices_of, read_survey}
 use Rattle.survey.specs.Places.{is_device}
 use Rattle.survey.specs.declared.Under.{Under}
-use Rattle.survey.specs.declared.Step.{Step}
-use Rattle.survey.specs.declared.Step.TheVariants.{On, Broken}
 use Rattle.survey.proofs.Append.{uncut, groups_append, extended, Complete, gather_append, sizes, Fresh, fresh_none, fresh_device, check_append, accepted_uncut}
 use Rattle.adapter.specs.Adapter.{adapter_site, decode_of}
 use Rattle.adapter.specs.Paths.{entries_of}
@@ -136,9 +135,9 @@ unfolding first_bad moved on_step
 move_check k [] i u = refl
 move_check k (g ∷ gs) i u = step (step_by u g) (λ v. move_check k gs (i + size_by g) v)
   where
-    step : (x : Step) → ((v : Under) → first_bad (k + (i + size_by g)) v gs ≡ moved k (first_bad (i + size_by g) v gs)) → on_step x (λ v. first_bad (k + i + size_by g) v gs) (refused 4 ((k + i) ∷ [])) ≡ moved k (on_step x (λ v. first_bad (i + size_by g) v gs) (refused 4 (i ∷ [])))
-    step (On v) ih = ap (λ n. first_bad n v gs) (add_assoc k i (size_by g)) ∙ ih v
-    step Broken ih = refl
+    step : (x : Option Under) → ((v : Under) → first_bad (k + (i + size_by g)) v gs ≡ moved k (first_bad (i + size_by g) v gs)) → on_step x (λ v. first_bad (k + i + size_by g) v gs) (refused 4 ((k + i) ∷ [])) ≡ moved k (on_step x (λ v. first_bad (i + size_by g) v gs) (refused 4 (i ∷ [])))
+    step (Some v) ih = ap (λ n. first_bad n v gs) (add_assoc k i (size_by g)) ∙ ih v
+    step None ih = refl
 
 -- the check of words that are not too long
 short_check : (t : List ℕ) → length t ≤ max_words → check_of t ≡ first_bad 0 start (groups_of t)

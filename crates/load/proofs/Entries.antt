@@ -6,7 +6,8 @@ use native.Mathlib.Nat.{le_refl}
 use mathlib.Core.Path.{◌≡◌, refl, ◌∙◌, ap, sym, subst}
 use mathlib.Core.Bool.{Bool, true, false, cond, ◌&&◌, false≢true}
 use mathlib.Core.List.{List, [], ◌∷◌, ◌++◌, map, map-append, append-nil, append_assoc}
-use mathlib.Core.Option.{Option, none, some, get_or}
+use Rattle.std.specs.Prelude.{Option, None, Some, Err, Ok, Result}
+use Rattle.std.specs.Option.{unwrap_or}
 use lib.Dec.{leb, eqb}
 use lib.ListN.{length, take, set}
 use lib.Seq.{take-suc-set}
@@ -23,15 +24,11 @@ use Rattle.named.specs.Named.{path_space, named}
 use Rattle.listing.specs.After.{after, listed, register_at, NextRegister}
 use Rattle.listing.proofs.Laws.{register_end}
 use Rattle.named.proofs.Laws.{seek_less}
-use Rattle.adapter.specs.Adapter.{min_hop, hop_outcome}
+use Rattle.adapter.specs.Adapter.{min_hop}
 use Rattle.adapter.specs.Paths.{PathEntry, entry_of, with_entry, entries_from, entries_by, entry_outcome}
 use Rattle.usb4.specs.Numbers.{type_number}
 use Rattle.usb4.specs.declared.AdapterType.{AdapterType}
 use Rattle.usb4.specs.declared.AdapterType.TheVariants as type
-use Rattle.adapter.specs.declared.HopFound.{HopFound}
-use Rattle.adapter.specs.declared.HopFound.TheVariants as hop
-use Rattle.adapter.specs.declared.EntryFound.{EntryFound}
-use Rattle.adapter.specs.declared.EntryFound.TheVariants as entry
 use Rattle.paths.specs.Reading.{fields_for, read_by}
 use Rattle.paths.specs.declared.EntryFields.{EntryFields}
 use Rattle.paths.proofs.Laws.{entry_read}
@@ -40,15 +37,19 @@ use Rattle.tables.specs.Packed.{entry_word, entries_in}
 use Rattle.load.specs.Loading.{owned}
 use Rattle.load.specs.Work.{pushed_rows, looked_at, FieldsAt, KeptFor, OneMore, Passed, PushedWithin}
 use Rattle.load.specs.declared.Kept.{Kept}
+use Rattle.adapter.specs.declared.EntryOut.{EntryOut}
+use Rattle.adapter.specs.Paths.{entry_out}
+use Rattle.refusal.specs.declared.FieldError.{FieldError}
+use Rattle.refusal.specs.declared.FieldError.TheVariants as field
+use Rattle.load.specs.Work.{pushed_to}
 use Rattle.load.specs.declared.Pushed.{Pushed}
-use Rattle.load.specs.declared.Pushed.TheVariants as pushed
 
 -- rows of path entries behind those of the first n words of a table
 abbrev pub behind : Site → List ℕ → ℕ → Outcome (List PathEntry) → Outcome (List EntryRow)
 behind s t n o = bind o (λ es. value (entries_in (take n t) ++ map (owned s.place s.adapter) es))
 
 -- no more entries
-pub none_behind : (s : Site) (t : List ℕ) (n next : ℕ) (o : Outcome (List PathEntry)) → o ≡ value [] → pushed_rows s t (pushed.Entries n next) ≡ behind s t n o
+pub none_behind : (s : Site) (t : List ℕ) (n next : ℕ) (o : Outcome (List PathEntry)) → o ≡ value [] → pushed_rows s t (pushed_to n next) ≡ behind s t n o
 unfolding pushed_rows bind
 none_behind s t n next o e = ap (λ xs. value xs) (sym (append-nil (entries_in (take n t)))) ∙ ap (λ x. behind s t n x) (sym e)
 
@@ -74,10 +75,10 @@ entries_cons ds s k least r rs = go (leb (2 * least) r.offset && eqb (r.offset %
     go : (b : Bool) (e : Outcome (Option PathEntry)) (o : Outcome (List PathEntry))
         → cond b (bind e (λ x. bind o (λ fs. value (with_entry x fs)))) o ≡ bind (cond b (bind e (λ x. bind (value []) (λ fs. value (with_entry x fs)))) (value [])) (λ es. bind o (λ fs. value (es ++ fs)))
     go true (refused n vs) o = refl
-    go true (value none) (refused n vs) = refl
-    go true (value none) (value fs) = refl
-    go true (value (some x)) (refused n vs) = refl
-    go true (value (some x)) (value fs) = refl
+    go true (value None) (refused n vs) = refl
+    go true (value None) (value fs) = refl
+    go true (value (Some x)) (refused n vs) = refl
+    go true (value (Some x)) (value fs) = refl
     go false e (refused n vs) = refl
     go false e (value fs) = refl
 
@@ -118,14 +119,14 @@ module _ (ds : List Description) (k least : ℕ) (t : List ℕ) (i w : ℕ) (ew 
 
 -- push_entry, over the words t of a survey and the table en
 module _ (s : Site) (least : ℕ) (t : List ℕ) (i : ℕ) (en : List ℕ) (n w : ℕ) (ew : w ≡ word t i) (fs : EntryFields) where
-  abbrev answer : List ℕ → Pushed → Type 0
+  abbrev answer : List ℕ → Result Pushed FieldError → Type 0
   answer en' p = ((ds : List Description) (k : ℕ) → FieldsAt ds k least (register_at t i) fs → pushed_rows s en' p ≡ behind s en n (entries_from ds s k least (register_at t i ∷ []))) × OneMore n (i + 4) p
 
-  pub push_none : looked_at_here least t i w ew ≡ false → answer en (pushed.Entries n (i + 4))
+  pub push_none : looked_at_here least t i w ew ≡ false → answer en (pushed_to n (i + 4))
   unfolding OneMore
   push_none e = (λ ds k h. none_behind s en n (i + 4) _ (entries_none ds s k least (register_at t i) (there least t i w ew false e)), (omega arith, omega arith, refl))
 
-  module _ (l : looked_at_here least t i w ew ≡ true) (v : ℕ) (ex : v ≡ word t (i + 3)) (f : EntryFound) (e : f ≡ read_by fs v) where
+  module _ (l : looked_at_here least t i w ew ≡ true) (v : ℕ) (ex : v ≡ word t (i + 3)) (f : Result (Option EntryOut) FieldError) (e : f ≡ read_by fs v) where
     offset_is : (register_at t i).offset ≡ w % 65536
     unfolding register_at register_in register_of
     offset_is = ap (λ x. x % 65536) (sym ew)
@@ -143,22 +144,22 @@ module _ (s : Site) (least : ℕ) (t : List ℕ) (i : ℕ) (en : List ℕ) (n w 
         ∙ ap (λ z. entry_outcome s z (read_by fs v)) offset_is
         ∙ ap (λ z. entry_outcome s (w % 65536) z) (sym e)
 
-    one_is : (ds : List Description) (k : ℕ) → FieldsAt ds k least (register_at t i) fs → (g : EntryFound) → f ≡ g → behind s en n (entries_from ds s k least (register_at t i ∷ [])) ≡ behind s en n (bind (entry_outcome s (w % 65536) g) (λ x. value (with_entry x [])))
+    one_is : (ds : List Description) (k : ℕ) → FieldsAt ds k least (register_at t i) fs → (g : Result (Option EntryOut) FieldError) → f ≡ g → behind s en n (entries_from ds s k least (register_at t i ∷ [])) ≡ behind s en n (bind (entry_outcome s (w % 65536) g) (λ x. value (with_entry x [])))
     one_is ds k h g z =
         ap (λ o. behind s en n o)
         (entries_one ds s k least (register_at t i) (there least t i w ew true l) ∙ ap (λ o. bind o (λ x. value (with_entry x []))) (entry_is ds k h ∙ ap (λ y. entry_outcome s (w % 65536) y) z))
 
-    pub push_refused : f ≡ entry.NoField → answer en pushed.NoField
+    pub push_refused : f ≡ (Err field.NoField) → answer en (Err field.NoField)
     unfolding pushed_rows bind entry_outcome OneMore refusal_of
-    push_refused z = (λ ds k h. sym (one_is ds k h entry.NoField z), omega arith)
+    push_refused z = (λ ds k h. sym (one_is ds k h (Err field.NoField) z), omega arith)
 
-    pub push_invalid : f ≡ entry.Invalid → answer en (pushed.Entries n (i + 4))
+    pub push_invalid : f ≡ (Ok None) → answer en (pushed_to n (i + 4))
     unfolding entry_outcome bind with_entry OneMore
-    push_invalid z = (λ ds k h. none_behind s en n (i + 4) _ refl ∙ sym (one_is ds k h entry.Invalid z), (omega arith, omega arith, refl))
+    push_invalid z = (λ ds k h. none_behind s en n (i + 4) _ refl ∙ sym (one_is ds k h (Ok None) z), (omega arith, omega arith, refl))
 
-    pub push_valid : (out hop x : ℕ) → f ≡ entry.Entry out hop → n < length en → entry_word x ≡ record { device = s.place; adapter = s.adapter; in_hop = w % 65536 / 2; out_adapter = out; out_hop = hop } → answer (set en n x) (pushed.Entries (n + 1) (i + 4))
+    pub push_valid : (out hop x : ℕ) → f ≡ Ok (Some (entry_out out hop)) → n < length en → entry_word x ≡ record { device = s.place; adapter = s.adapter; in_hop = w % 65536 / 2; out_adapter = out; out_hop = hop } → answer (set en n x) (pushed_to (n + 1) (i + 4))
     unfolding pushed_rows entry_outcome bind with_entry owned OneMore
-    push_valid out hop x z h y = (λ ds k m. ap (λ l. value l) (one_more entry_word en n x _ h y) ∙ sym (one_is ds k m (entry.Entry out hop) z), (omega arith, omega arith, refl))
+    push_valid out hop x z h y = (λ ds k m. ap (λ l. value l) (one_more entry_word en n x _ h y) ∙ sym (one_is ds k m (Ok (Some (entry_out out hop))) z), (omega arith, omega arith, refl))
 
 -- push_from, over the words t of a survey and the table en₀ that holds n entries at first: count entries so far, those of the registers from `at` on are left, and the next register is at i
 module _ (ds : List Description) (s : Site) (k least : ℕ) (t en₀ : List ℕ) (from n : ℕ) where
@@ -171,14 +172,14 @@ module _ (ds : List Description) (s : Site) (k least : ℕ) (t en₀ : List ℕ)
     pub next : NextRegister t true at i
     pub so_far : behind s en₀ n (left from) ≡ behind s en count (left at)
 
-  abbrev whole : List ℕ → Pushed → Type 0
+  abbrev whole : List ℕ → Result Pushed FieldError → Type 0
   whole en p = (pushed_rows s en p ≡ behind s en₀ n (left from)) × PushedWithin t from p
 
   pub pushing_start : (i : ℕ) → from ≤ length t → 4 * n ≤ from → NextRegister t true from i → Pushing en₀ n from i
   pushing_start i l m r = record { long = refl; passed = record { forward = le_refl from; within = l; few = m; adapters = refl; devices = refl }; next = r; so_far = refl }
 
   module _ (en : List ℕ) (count at i : ℕ) (g : Pushing en count at i) where
-    pub pushing_end : length t ≤ i → whole en (pushed.Entries count at)
+    pub pushing_end : length t ≤ i → whole en (pushed_to count at)
     unfolding listed PushedWithin entries_from
     pushing_end l = (none_behind s en count at _ (ap (λ rs. entries_from ds s k least rs) (register_end t true at i g.next l)) ∙ sym g.so_far, g.passed)
 
@@ -186,7 +187,7 @@ module _ (ds : List Description) (s : Site) (k least : ℕ) (t en₀ : List ℕ)
       pub pushing_room : length t ≤ 4 * length en₀ → (i + 4 ≤ length t) × (count < length en)
       pushing_room m = ((g.next.room l).1, omega (arith, g.next.room l, g.passed.few, g.long))
 
-      module _ (en' : List ℕ) (p : Pushed) (e : pushed_rows s en' p ≡ behind s en count (entries_from ds s k least (register_at t i ∷ []))) where
+      module _ (en' : List ℕ) (p : Result Pushed FieldError) (e : pushed_rows s en' p ≡ behind s en count (entries_from ds s k least (register_at t i ∷ []))) where
         turn : behind s en₀ n (left from) ≡ bind (pushed_rows s en' p) (λ F. bind (left (i + 4)) (λ fs. value (F ++ map (owned s.place s.adapter) fs)))
         unfolding listed
         turn =
@@ -195,11 +196,11 @@ module _ (ds : List Description) (s : Site) (k least : ℕ) (t en₀ : List ℕ)
             ∙ rows_joined (owned s.place s.adapter) (entries_in (take count en)) (entries_from ds s k least (register_at t i ∷ [])) (left (i + 4))
             ∙ ap (λ o. bind o (λ F. bind (left (i + 4)) (λ fs. value (F ++ map (owned s.place s.adapter) fs)))) (sym e)
 
-        pub pushing_refused : p ≡ pushed.NoField → whole en' pushed.NoField
+        pub pushing_refused : p ≡ (Err field.NoField) → whole en' (Err field.NoField)
         unfolding pushed_rows bind PushedWithin refusal_of
         pushing_refused z = (sym (turn ∙ ap (λ y. bind (pushed_rows s en' y) (λ F. bind (left (i + 4)) (λ fs. value (F ++ map (owned s.place s.adapter) fs)))) z), omega arith)
 
-        module _ (m : OneMore count (i + 4) p) (c next : ℕ) (z : p ≡ pushed.Entries c next) where
+        module _ (m : OneMore count (i + 4) p) (c next : ℕ) (z : p ≡ pushed_to c next) where
           more : (count ≤ c) × (c ≤ count + 1) × (next ≡ i + 4)
           unfolding OneMore
           more = subst (λ y. OneMore count (i + 4) y) z m
@@ -224,7 +225,7 @@ module _ (ds : List Description) (s : Site) (k least : ℕ) (t en₀ : List ℕ)
               }
 
 -- a least HopID is small
-least_small : (k : AdapterType) → get_or (min_hop k) 0 < 65536
+least_small : (k : AdapterType) → unwrap_or (min_hop k) 0 < 65536
 unfolding min_hop
 least_small type.Unknown = omega arith
 least_small type.Inactive = omega arith
@@ -240,25 +241,24 @@ least_small type.Usb3GenTDown = omega arith
 least_small type.Usb3GenTUp = omega arith
 
 -- what min_hop gives
-module _ (k : AdapterType) (f : HopFound) (e : hop_outcome f ≡ min_hop k) (least : ℕ) (z : f ≡ hop.Hop least) where
-  least_is : min_hop k ≡ some least
-  unfolding hop_outcome
-  least_is = sym e ∙ ap (λ y. hop_outcome y) z
+module _ (k : AdapterType) (f : Option ℕ) (e : f ≡ min_hop k) (least : ℕ) (z : f ≡ Some least) where
+  least_is : min_hop k ≡ Some least
+  least_is = sym e ∙ z
 
   pub least_fits : least < 65536
-  least_fits = subst (λ o. get_or o 0 < 65536) least_is (least_small k)
+  least_fits = subst (λ o. unwrap_or o 0 < 65536) least_is (least_small k)
 
 -- push_entries, by the least HopID of a kind
-module _ (ds : List Description) (s : Site) (k : AdapterType) (t en : List ℕ) (i n : ℕ) (f : HopFound) (e : hop_outcome f ≡ min_hop k) where
+module _ (ds : List Description) (s : Site) (k : AdapterType) (t en : List ℕ) (i n : ℕ) (f : Option ℕ) (e : f ≡ min_hop k) where
   abbrev entries : Outcome (List PathEntry)
   entries = entries_by ds s (type_number k) (after t i).entries (min_hop k)
 
-  pub no_least : f ≡ hop.None → i ≤ length t → 4 * n ≤ i → (pushed_rows s en (pushed.Entries n i) ≡ behind s en n entries) × PushedWithin t i (pushed.Entries n i)
-  unfolding entries_by hop_outcome PushedWithin
+  pub no_least : f ≡ None → i ≤ length t → 4 * n ≤ i → (pushed_rows s en (pushed_to n i) ≡ behind s en n entries) × PushedWithin t i (pushed_to n i)
+  unfolding entries_by PushedWithin
   no_least z l m =
-      (none_behind s en n i entries (ap (λ o. entries_by ds s (type_number k) (after t i).entries o) (sym e ∙ ap (λ y. hop_outcome y) z)), record { forward = le_refl i; within = l; few = m; adapters = refl; devices = refl })
+      (none_behind s en n i entries (ap (λ o. entries_by ds s (type_number k) (after t i).entries o) (sym e ∙ z)), record { forward = le_refl i; within = l; few = m; adapters = refl; devices = refl })
 
-  module _ (least : ℕ) (z : f ≡ hop.Hop least) where
+  module _ (least : ℕ) (z : f ≡ Some least) where
     pub by_least : (c : ℕ) → c ≡ type_number k → (r : Outcome (List EntryRow)) → r ≡ behind s en n (entries_from ds s c least (after t i).entries) → r ≡ behind s en n entries
     unfolding entries_by
     by_least c h r g = g ∙ ap (λ x. behind s en n (entries_from ds s x least (after t i).entries)) h ∙ ap (λ o. behind s en n (entries_by ds s (type_number k) (after t i).entries o)) (sym (least_is k f e least z))

@@ -3,7 +3,7 @@ use Prim.Native.Nat.{ℕ}
 use mathlib.Core.Path.{◌≡◌, refl, ◌∙◌, ap}
 use mathlib.Core.Bool.{Bool, true, false}
 use mathlib.Core.List.{List, [], ◌∷◌}
-use mathlib.Core.Option.{none, some}
+use Rattle.std.specs.Prelude.{None, Some}
 use Rattle.refusal.specs.Outcome.{value, bind}
 use Rattle.refusal.specs.Refusal.{refusal_of, at}
 use Rattle.util.specs.Bits.{bits_of}
@@ -27,7 +27,7 @@ use Rattle.survey.specs.Rules.{good_device, good_adapter, good_register, after_d
 use Rattle.survey.specs.Devices.{register_in, with_register, with_adapter, with_device, with_group, gather, devices_of, read_survey}
 use Rattle.named.specs.Named.{named, or_else, having_name, with_register as having_register, by_name, sited, wanted_field, wanted_flag}
 use Rattle.state.specs.State.{by_offset, both_set, enabled_if, by_flag, by_flags, lane_state, of_kind, state_of, has_speed, speed_in, link_speed}
-use Rattle.adapter.specs.Adapter.{AdapterRow, third_value, kind_of, registers_of, indices_from, last_of, between, find_cap, found, is_lane, is_lane0, lane0_of, lane1_of, min_hop, narrow, max_hop_in, max_hop, parse_state, adapter_site, few_registers, row_of, decode_of}
+use Rattle.adapter.specs.Adapter.{AdapterRow, third_value, kind_of, registers_of, indices_from, last_of, between, find_cap, is_lane, is_lane0, lane0_of, lane1_of, min_hop, narrow, max_hop_in, max_hop, parse_state, adapter_site, few_registers, row_of, decode_of}
 use Rattle.adapter.specs.Paths.{entry_in, entry_of, with_entry, entries_from, entries_by, entries_of}
 use Rattle.tables.specs.Rows.{EntryRow, DeviceRow, Rows, joined}
 use Rattle.numbering.specs.Numbered.{numbered}
@@ -57,11 +57,11 @@ entry p a h out o = record { device = p; adapter = a; in_hop = h; out_adapter = 
 
 -- the adapters here have no ADP_CS_5 and no lane in a state that has a speed
 unfoldable pub plain_row : ℕ → ℕ → AdapterType → State → Bool → AdapterRow
-plain_row p n k s lane0 = record { device = p; number = n; kind = k; state = s; lane0 = lane0; lane1 = false; speed = value speed.Unknown; max_hop = value none }
+plain_row p n k s lane0 = record { device = p; number = n; kind = k; state = s; lane0 = lane0; lane1 = false; speed = value speed.Unknown; max_hop = value None }
 
 -- a router of domain 0 that is not USB4
 unfoldable pub router_row : ℕ → ℕ → DeviceRow
-router_row route up = record { kind = kind.Router; usb4 = false; domain = 0; route = route; upstream = value (some up) }
+router_row route up = record { kind = kind.Router; usb4 = false; domain = 0; route = route; upstream = value (Some up) }
 
 unfoldable pub example_rows : Rows
 example_rows = record {
@@ -76,7 +76,7 @@ example_rows = record {
 }
 
 pub read_and_load : bind (read_survey example) (λ devices. load_from ours 0 devices) ≡ value example_rows
-unfolding example entry plain_row router_row example_rows bind refusal_of at bits_of bytes_of type_of lane_state_of device_kind_of register_of keep is is_none kind_fits cap_fits vs_fits fits_naming only naming lower alike field_is find_field one_bit find_flag value_in is_set flag_in bits_named plain capped ours is_long size_of groups_of good_device good_adapter good_register after_device after_adapter may_stand after_register step_of step_by size_by on_step first_bad check_of register_in with_register with_adapter with_device with_group gather devices_of read_survey named or_else having_name having_register by_name sited wanted_field wanted_flag by_offset both_set enabled_if by_flag by_flags lane_state of_kind state_of has_speed speed_in link_speed third_value kind_of registers_of indices_from last_of between find_cap found is_lane is_lane0 lane0_of lane1_of min_hop narrow max_hop_in max_hop parse_state adapter_site few_registers row_of decode_of entry_in entry_of with_entry entries_from entries_by entries_of joined itself and_then owned own_rows load_adapter load_adapters router_cs1 upstream_in device_row device_rows numbered fitting fits no_registers load_device load_from
+unfolding example entry plain_row router_row example_rows bind refusal_of at bits_of bytes_of type_of lane_state_of device_kind_of register_of keep is is_none kind_fits cap_fits vs_fits fits_naming only naming lower alike field_is find_field one_bit find_flag value_in is_set flag_in bits_named plain capped ours is_long size_of groups_of good_device good_adapter good_register after_device after_adapter may_stand after_register step_of step_by size_by on_step first_bad check_of register_in with_register with_adapter with_device with_group gather devices_of read_survey named or_else having_name having_register by_name sited wanted_field wanted_flag by_offset both_set enabled_if by_flag by_flags lane_state of_kind state_of has_speed speed_in link_speed third_value kind_of registers_of indices_from last_of between find_cap is_lane is_lane0 lane0_of lane1_of min_hop narrow max_hop_in max_hop parse_state adapter_site few_registers row_of decode_of entry_in entry_of with_entry entries_from entries_by entries_of joined itself and_then owned own_rows load_adapter load_adapters router_cs1 upstream_in device_row device_rows numbered fitting fits no_registers load_device load_from
 read_and_load = refl
 
 -- under words that are our descriptions

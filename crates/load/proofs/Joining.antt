@@ -1,4 +1,5 @@
 -- Laws on rows that are loaded one part after another: what is so far and what is left give the whole. Assumes nothing.
+use Rattle.std.specs.Prelude.{Err, Result, Option, Ok}
 use Prim.Native.Nat.{ℕ, suc, ◌+◌, ◌*◌, ◌/◌, ◌%◌, ◌≤◌, ◌<◌}
 use native.Mathlib.Omega.{arith}
 use native.Mathlib.Nat.{le_refl}
@@ -7,7 +8,6 @@ use native.Mathlib.Numerals.{add-one}
 use mathlib.Core.Path.{◌≡◌, refl, ◌∙◌, ap, sym, subst}
 use mathlib.Core.Bool.{Bool, true, false, cond, ◌&&◌, true≢false}
 use mathlib.Core.List.{List, [], ◌∷◌, ◌++◌, map, map-append, append_assoc, append-nil}
-use mathlib.Core.Option.{Option}
 use lib.Dec.{eqb}
 use lib.ListN.{length, take, set}
 use lib.Seq.{take-suc-set, length-take-le}
@@ -19,9 +19,7 @@ use Rattle.refusal.specs.declared.Fault.{Fault}
 use Rattle.refusal.specs.declared.Fault.TheVariants.{FewRegisters}
 use Rattle.layout.specs.Layout.{bits, word, kind}
 use Rattle.description.specs.Rules as description
-use Rattle.description.specs.declared.Checked.TheVariants as description-checked
 use Rattle.survey.specs.Rules as survey
-use Rattle.survey.specs.declared.Checked.TheVariants as survey-checked
 use Rattle.survey.proofs.Laws.{too_long}
 use Rattle.layout.specs.Description.{Description, descriptions_of}
 use Rattle.survey.specs.Devices.{Adapter, Device, devices_of, read_survey}
@@ -32,27 +30,27 @@ use Rattle.tables.specs.Rows.{DeviceRow, Rows, no_rows, joined}
 use Rattle.usb4.specs.Codes.{device_kind_of}
 use Rattle.adapter.specs.Adapter.{adapter_site}
 use Rattle.tables.specs.Found.{upstream_outcome}
-use Rattle.tables.specs.declared.Upstream.{Upstream}
 use Rattle.tables.specs.Packed.{entry_word, adapter_word, device_word, entries_in, adapters_in, devices_from, devices_in}
 use Rattle.tables.proofs.Laws.{rising_entries, rising_adapters}
 use Rattle.load.specs.Loading.{itself, and_then, load_adapter, load_adapters, router_cs1, upstream_in, device_row, device_rows, fits, no_registers, load_device, load_from, loaded}
-use Rattle.load.specs.Answers.{refused_by, rows_by, loaded_rows, UsableBy}
-use Rattle.load.specs.declared.Refusal.{Refusal}
-use Rattle.load.specs.declared.Refusal.TheVariants as refusal
-use Rattle.load.specs.Work.{rows_so_far, Passed, adapter_rows, AdapterWithin, adapters_rows, AdaptersWithin, ToDevice, fit_outcome, fits_by, device_load_rows, DeviceWithin, with_device, filled_rows, FilledWithin, into_rows, IntoWithin}
-use Rattle.load.specs.declared.AdapterLoad.{AdapterLoad}
-use Rattle.load.specs.declared.AdapterLoad.TheVariants as adapter-load
-use Rattle.load.specs.declared.AdaptersLoad.{AdaptersLoad}
-use Rattle.load.specs.declared.AdaptersLoad.TheVariants as adapters-load
-use Rattle.load.specs.declared.Fit.{Fit}
-use Rattle.load.specs.declared.DeviceLoad.{DeviceLoad}
-use Rattle.load.specs.declared.DeviceLoad.TheVariants as device-load
-use Rattle.load.specs.declared.Filled.{Filled}
-use Rattle.load.specs.declared.Filled.TheVariants as filled
-use Rattle.load.specs.declared.LoadAnswer.{LoadAnswer}
-use Rattle.load.specs.declared.LoadAnswer.TheVariants as answer
+use Rattle.load.specs.Answers.{rows_by, loaded_rows, UsableBy}
+use Rattle.refusal.specs.declared.Refusal.{Refusal}
+use Rattle.refusal.specs.declared.Refusal.TheVariants as refusal
+use Rattle.load.specs.Work.{rows_so_far, Passed, adapter_rows, AdapterWithin, adapters_rows, AdaptersWithin, ToDevice, fits_by, device_load_rows, DeviceWithin, with_device, filled_rows, FilledWithin, into_rows, IntoWithin}
 use Rattle.load.specs.declared.Loaded.{Loaded}
 use Rattle.load.proofs.Order.{entries_rise, adapters_rise}
+use Rattle.refusal.specs.Refusal.{fault_outcome, outcome}
+use Rattle.refusal.proofs.Laws.{ended}
+use Rattle.refusal.specs.declared.FieldError.{FieldError}
+use Rattle.load.specs.Work.{adapter_loaded}
+use Rattle.load.specs.Work.{adapters_loaded}
+use Rattle.load.specs.Work.{device_loaded}
+use Rattle.load.specs.Work.{filled_to}
+use Rattle.load.specs.Answers.{counted}
+use Rattle.load.specs.declared.AdapterLoad.{AdapterLoad}
+use Rattle.load.specs.declared.AdaptersLoad.{AdaptersLoad}
+use Rattle.load.specs.declared.DeviceLoad.{DeviceLoad}
+use Rattle.load.specs.declared.Counts.{Counts}
 
 -- ---- rows and outcomes
 
@@ -117,26 +115,26 @@ put_device rs ms n r m h k =
 
 -- ---- answers
 
-rows_into : (l : Loaded) (a : LoadAnswer) → rows_by l a ≡ into_rows l.entries l.adapters l.routes l.marks a
+rows_into : (l : Loaded) (a : Result Counts Refusal) → rows_by l a ≡ into_rows l.entries l.adapters l.routes l.marks a
 unfolding rows_by into_rows
-rows_into l (answer.Tables e a d) = refl
-rows_into l (answer.Refused r) = refl
+rows_into l (Ok x) = refl
+rows_into l (Err r) = refl
 
 pub loaded_into : (l : Loaded) → loaded_rows l ≡ into_rows l.entries l.adapters l.routes l.marks l.answer
 unfolding loaded_rows
 loaded_into l = rows_into l l.answer
 
 -- tables that hold what a survey loads to can be searched
-usable_by : (t s : List ℕ) (l : Loaded) (a : LoadAnswer) → rows_by l a ≡ loaded t s → IntoWithin a → UsableBy l a
+usable_by : (t s : List ℕ) (l : Loaded) (a : Result Counts Refusal) → rows_by l a ≡ loaded t s → IntoWithin a → UsableBy l a
 unfolding rows_by IntoWithin UsableBy
-usable_by t s l (answer.Tables e a d) same within = record {
+usable_by t s l (Ok x) same within = record {
   entries = within.0;
   adapters = within.1;
   devices = within.2;
-  entry_order = rising_entries (take e l.entries) (entries_rise t s _ (sym same));
-  adapter_order = rising_adapters (take a l.adapters) (adapters_rise t s _ (sym same));
+  entry_order = rising_entries (take x.entries l.entries) (entries_rise t s _ (sym same));
+  adapter_order = rising_adapters (take x.adapters l.adapters) (adapters_rise t s _ (sym same));
 }
-usable_by t s l (answer.Refused r) same within = within
+usable_by t s l (Err r) same within = within
 
 pub usable : (t s : List ℕ) (l : Loaded) → loaded_rows l ≡ loaded t s → IntoWithin l.answer → UsableBy l l.answer
 unfolding loaded_rows
@@ -157,38 +155,38 @@ short s ok = go (dec_lt 16384 (length s))
     go (yes h) = absurd (true≢false (ap (λ o. is_value o) (ok ∙ sym (too_long s h))))
     go (no h) = omega arith
 
-pub within_refused : (r : Refusal) → IntoWithin (answer.Refused r)
+pub within_refused : (r : Refusal) → IntoWithin (Err r)
 unfolding IntoWithin
 within_refused r = le_refl 0
 
 module _ (t s en ad ro ma : List ℕ) where
-  pub into_descriptions : (p : ℕ) → description.checked_outcome (description-checked.Refused p) ≡ description.check_of t → into_rows en ad ro ma (answer.Refused (refusal.Descriptions p)) ≡ loaded t s
-  unfolding into_rows refused_by loaded description.read_descriptions description.checked_outcome bind
-  into_descriptions p e = ap (λ o. bind (bind o (λ ok. value (descriptions_of t))) (λ ds. bind (read_survey s) (λ devices. load_from ds 0 devices))) e
+  pub into_descriptions : (q : Result Unit Refusal) (p : Refusal) → outcome q ≡ description.check_of t → q ≡ Err p → into_rows en ad ro ma (Err p) ≡ loaded t s
+  unfolding into_rows loaded description.read_descriptions
+  into_descriptions q p e k = ended (Err p) (description.read_descriptions t) (ended q (description.check_of t) e _ p k) _ p refl
 
   module _ (good : value tt ≡ description.check_of t) where
     after_descriptions : bind (read_survey s) (λ devices. load_from (descriptions_of t) 0 devices) ≡ loaded t s
     unfolding loaded description.read_descriptions bind
     after_descriptions = ap (λ o. bind (bind o (λ ok. value (descriptions_of t))) (λ ds. bind (read_survey s) (λ devices. load_from ds 0 devices))) good
 
-    pub into_survey : (p : ℕ) → survey.checked_outcome (survey-checked.Refused p) ≡ survey.check_of s → into_rows en ad ro ma (answer.Refused (refusal.Survey p)) ≡ loaded t s
-    unfolding into_rows refused_by read_survey survey.checked_outcome bind
-    into_survey p e = ap (λ o. bind (bind o (λ ok. value (devices_of s))) (λ devices. load_from (descriptions_of t) 0 devices)) e ∙ after_descriptions
+    pub into_survey : (q : Result Unit Refusal) (p : Refusal) → outcome q ≡ survey.check_of s → q ≡ Err p → into_rows en ad ro ma (Err p) ≡ loaded t s
+    unfolding into_rows read_survey
+    into_survey q p e k = ended (Err p) (read_survey s) (ended q (survey.check_of s) e _ p k) _ p refl ∙ after_descriptions
 
-    module _ (ok : value tt ≡ survey.check_of s) (r : Filled) (same : filled_rows en ad ro ma r ≡ load_from (descriptions_of t) 0 (devices_of s)) where
+    module _ (ok : value tt ≡ survey.check_of s) (r : Result Counts Fault) (same : filled_rows en ad ro ma r ≡ load_from (descriptions_of t) 0 (devices_of s)) where
       into_filled : filled_rows en ad ro ma r ≡ loaded t s
       unfolding read_survey bind
       into_filled = same ∙ ap (λ o. bind (bind o (λ ok. value (devices_of s))) (λ devices. load_from (descriptions_of t) 0 devices)) ok ∙ after_descriptions
 
-      pub into_fault : (f : Fault) → r ≡ filled.Refused f → into_rows en ad ro ma (answer.Refused (refusal.Fault f)) ≡ loaded t s
-      unfolding into_rows refused_by filled_rows
+      pub into_fault : (f : Fault) → r ≡ Err f → into_rows en ad ro ma (Err (refusal.Fault f)) ≡ loaded t s
+      unfolding into_rows filled_rows
       into_fault f q = ap (λ x. filled_rows en ad ro ma x) (sym q) ∙ into_filled
 
-      pub into_tables : (e a d : ℕ) → r ≡ filled.Tables e a d → into_rows en ad ro ma (answer.Tables e a d) ≡ loaded t s
+      pub into_tables : (e a d : ℕ) → r ≡ filled_to e a d → into_rows en ad ro ma (counted e a d) ≡ loaded t s
       unfolding into_rows filled_rows
       into_tables e a d q = ap (λ x. filled_rows en ad ro ma x) (sym q) ∙ into_filled
 
-pub within_tables : (n m k : ℕ) (r : Filled) (e a d : ℕ) → FilledWithin n m k r → r ≡ filled.Tables e a d → n ≡ 4096 → m ≡ 16384 → k ≡ 4096 → IntoWithin (answer.Tables e a d)
+pub within_tables : (n m k : ℕ) (r : Result Counts Fault) (e a d : ℕ) → FilledWithin n m k r → r ≡ filled_to e a d → n ≡ 4096 → m ≡ 16384 → k ≡ 4096 → IntoWithin (counted e a d)
 unfolding FilledWithin IntoWithin
 within_tables n m k r e a d h q en ad ro =
     let w = subst (λ x. FilledWithin n m k x) q h in
@@ -244,23 +242,23 @@ module _ (ds : List Description) (p : ℕ) (usb4 : Bool) (t : List ℕ) (from : 
 
   module _ (whole : Outcome Rows) (en ad : List ℕ) (e a i : ℕ) (b : Adapting ds p usb4 t from whole en ad e a i) where
     -- no more adapters of the device
-    adapting_end : (after t i).adapters ≡ [] → (i < length t → (kind (word t i) ≡ 3) × (i + 4 ≤ length t)) → (adapters_rows en ad (adapters-load.Rows e a i) ≡ whole) × AdaptersWithin t from (adapters-load.Rows e a i)
+    adapting_end : (after t i).adapters ≡ [] → (i < length t → (kind (word t i) ≡ 3) × (i + 4 ≤ length t)) → (adapters_rows en ad (adapters_loaded e a i) ≡ whole) × AdaptersWithin t from (adapters_loaded e a i)
     unfolding adapters_rows AdaptersWithin load_adapters
     adapting_end none head = (
       sym (then_none (rows_so_far (take e en) (take a ad))) ∙ ap (λ l. and_then (value (rows_so_far (take e en) (take a ad))) (load_adapters ds p usb4 l)) (sym none) ∙ b.rest,
       record { forward = b.forward; within = b.within; entries = b.entries; adapters = b.adapters; devices = b.devices; head = head },
     )
 
-    pub adapting_past : length t ≤ i → (adapters_rows en ad (adapters-load.Rows e a i) ≡ whole) × AdaptersWithin t from (adapters-load.Rows e a i)
+    pub adapting_past : length t ≤ i → (adapters_rows en ad (adapters_loaded e a i) ≡ whole) × AdaptersWithin t from (adapters_loaded e a i)
     adapting_past h = adapting_end (ap (λ g. g.adapters) (after_end t i h)) (λ l. absurd (omega arith))
 
-    pub adapting_device : i < length t → (kind (word t i) ≡ 4 → ⊥) → (adapters_rows en ad (adapters-load.Rows e a i) ≡ whole) × AdaptersWithin t from (adapters-load.Rows e a i)
+    pub adapting_device : i < length t → (kind (word t i) ≡ 4 → ⊥) → (adapters_rows en ad (adapters_loaded e a i) ≡ whole) × AdaptersWithin t from (adapters_loaded e a i)
     adapting_device here n =
         let k = b.head here n in
         adapting_end (device_head_lem t i k.0 k.1).0 (λ l. k)
 
     -- one more adapter
-    module _ (here : i < length t) (k : kind (word t i) ≡ 4) (en' : List ℕ) (r : AdapterLoad) (same : adapter_rows en' r ≡ and_then (value (rows_so_far (take e en) [])) (load_adapter ds p usb4 (adapter_at t i))) where
+    module _ (here : i < length t) (k : kind (word t i) ≡ 4) (en' : List ℕ) (r : Result AdapterLoad Fault) (same : adapter_rows en' r ≡ and_then (value (rows_so_far (take e en) [])) (load_adapter ds p usb4 (adapter_at t i))) where
       this_adapter : and_then (and_then (value (rows_so_far [] (take a ad))) (adapter_rows en' r)) (load_adapters ds p usb4 (after t (i + 1)).adapters) ≡ whole
       unfolding load_adapters
       this_adapter =
@@ -270,7 +268,7 @@ module _ (ds : List Description) (p : ℕ) (usb4 : Bool) (t : List ℕ) (from : 
           ∙ ap (λ l. and_then (value (rows_so_far (take e en) (take a ad))) (load_adapters ds p usb4 l)) (sym (adapter_head_lem t i here k).0)
           ∙ b.rest
 
-      pub adapting_fault : (f : Fault) → r ≡ adapter-load.Refused f → (ad' : List ℕ) → (adapters_rows en' ad' (adapters-load.Refused f) ≡ whole) × AdaptersWithin t from (adapters-load.Refused f)
+      pub adapting_fault : (f : Fault) → r ≡ Err f → (ad' : List ℕ) → (adapters_rows en' ad' (Err f) ≡ whole) × AdaptersWithin t from (Err f)
       unfolding adapter_rows adapters_rows AdaptersWithin
       adapting_fault f q ad' =
           let R = load_adapters ds p usb4 (after t (i + 1)).adapters in (
@@ -278,7 +276,7 @@ module _ (ds : List Description) (p : ℕ) (usb4 : Bool) (t : List ℕ) (from : 
             le_refl 0,
           )
 
-      module _ (w e' next : ℕ) (q : r ≡ adapter-load.Adapter w e' next) (passed : AdapterWithin t (i + 1) r) where
+      module _ (w e' next : ℕ) (q : r ≡ adapter_loaded w e' next) (passed : AdapterWithin t (i + 1) r) where
         pub adapter_passed : Passed t (i + 1) e' next
         unfolding AdapterWithin
         adapter_passed = subst (λ x. AdapterWithin t (i + 1) x) q passed
@@ -327,7 +325,7 @@ module _ (t : List ℕ) (at w : ℕ) (e : w ≡ word t at) where
   same_usb4 = ap (λ x. eqb x 1) (let z : w % 2 ≡ bits (word t at) 0 0 = omega (arith, e) in z)
 
   -- its mark's row
-  pub mark_row : (ds : List Description) (p m : ℕ) (domain : ℕ) (up : Upstream) → domain ≡ word t (at + 1) → upstream_outcome (adapter_site p 0) up ≡ upstream_in p (router_cs1 ds (device_at t at)) → ((p route : ℕ) → device_word p route m ≡ record { kind = device_kind_of (w / 16777216 % 16); usb4 = eqb (w % 2) 1; domain = domain; route = route; upstream = upstream_outcome (adapter_site p 0) up }) → device_word p (device_at t at).route m ≡ device_row ds p (device_at t at)
+  pub mark_row : (ds : List Description) (p m : ℕ) (domain : ℕ) (up : Result (Option ℕ) FieldError) → domain ≡ word t (at + 1) → upstream_outcome (adapter_site p 0) up ≡ upstream_in p (router_cs1 ds (device_at t at)) → ((p route : ℕ) → device_word p route m ≡ record { kind = device_kind_of (w / 16777216 % 16); usb4 = eqb (w % 2) 1; domain = domain; route = route; upstream = upstream_outcome (adapter_site p 0) up }) → device_word p (device_at t at).route m ≡ device_row ds p (device_at t at)
   unfolding device_row device_at
   mark_row ds p m domain up d u f =
       f p (device_at t at).route
@@ -376,15 +374,15 @@ module _ (ds : List Description) (p : ℕ) (d : Device) (en ad : List ℕ) where
           ∙ ap (λ o. and_then (value (rows_so_far en ad)) (bind o (λ ok. and_then (value (device_rows ds p d)) (load_adapters ds p d.usb4 d.adapters)))) fit
           ∙ device_on
 
-      module _ (en' ad' : List ℕ) (r : AdaptersLoad) (same : adapters_rows en' ad' r ≡ and_then (value (rows_so_far en ad)) (load_adapters ds p d.usb4 d.adapters)) where
-        pub device_fault : (f : Fault) → r ≡ adapters-load.Refused f → refusal_of f ≡ and_then (value (rows_so_far en ad)) (load_device ds p d)
+      module _ (en' ad' : List ℕ) (r : Result AdaptersLoad Fault) (same : adapters_rows en' ad' r ≡ and_then (value (rows_so_far en ad)) (load_adapters ds p d.usb4 d.adapters)) where
+        pub device_fault : (f : Fault) → r ≡ Err f → refusal_of f ≡ and_then (value (rows_so_far en ad)) (load_device ds p d)
         unfolding adapters_rows
         device_fault f q =
             sym (then_fault (device_rows ds p d) f)
             ∙ ap (λ o. and_then (value (device_rows ds p d)) o) (ap (λ x. adapters_rows en' ad' x) (sym q) ∙ same)
             ∙ device_adapters
 
-        pub device_rows_lem : (e a next : ℕ) → r ≡ adapters-load.Rows e a next → (row : DeviceRow) → row ≡ device_row ds p d → value (with_device row (rows_so_far (take e en') (take a ad'))) ≡ and_then (value (rows_so_far en ad)) (load_device ds p d)
+        pub device_rows_lem : (e a next : ℕ) → r ≡ adapters_loaded e a next → (row : DeviceRow) → row ≡ device_row ds p d → value (with_device row (rows_so_far (take e en') (take a ad'))) ≡ and_then (value (rows_so_far en ad)) (load_device ds p d)
         unfolding adapters_rows with_device device_rows joined rows_so_far
         device_rows_lem e a next q row k =
             ap (λ x. value (with_device x (rows_so_far (take e en') (take a ad')))) k
@@ -393,20 +391,20 @@ module _ (ds : List Description) (p : ℕ) (d : Device) (en ad : List ℕ) where
             ∙ device_adapters
 
 -- what the parts of a device are told by
-pub fits_told : (ds : List Description) (t : List ℕ) (p at : ℕ) (n : Option Named) (r o : Fit) → fit_outcome r ≡ fits_by p (after t (at + 4)).adapters n → n ≡ router_cs1 ds (device_at t at) → r ≡ o → fit_outcome o ≡ fits ds p (device_at t at) (device_at t at).adapters
+pub fits_told : (ds : List Description) (t : List ℕ) (p at : ℕ) (n : Option Named) (r o : Result Unit Fault) → fault_outcome r ≡ fits_by p (after t (at + 4)).adapters n → n ≡ router_cs1 ds (device_at t at) → r ≡ o → fault_outcome o ≡ fits ds p (device_at t at) (device_at t at).adapters
 unfolding device_at
 fits_told ds t p at n r o e k q =
-    ap (λ x. fit_outcome x) (sym q) ∙ e ∙ ap (λ x. fits_by p (after t (at + 4)).adapters x) k ∙ sym (fits_by_lem ds p (device_at t at) (after t (at + 4)).adapters)
+    ap (λ x. fault_outcome x) (sym q) ∙ e ∙ ap (λ x. fits_by p (after t (at + 4)).adapters x) k ∙ sym (fits_by_lem ds p (device_at t at) (after t (at + 4)).adapters)
 
 pub adapters_told : (ds : List Description) (t : List ℕ) (p at : ℕ) (u : Bool) (s : Rows) (o : Outcome Rows) → u ≡ (device_at t at).usb4 → o ≡ and_then (value s) (load_adapters ds p u (after t (at + 4)).adapters) → o ≡ and_then (value s) (load_adapters ds p (device_at t at).usb4 (device_at t at).adapters)
 unfolding device_at
 adapters_told ds t p at u s o e k = k ∙ ap (λ x. and_then (value s) (load_adapters ds p x (after t (at + 4)).adapters)) e
 
-pub device_within : (t : List ℕ) (i : ℕ) (r : AdaptersLoad) (m e a next : ℕ) → AdaptersWithin t i r → r ≡ adapters-load.Rows e a next → DeviceWithin t i (device-load.Device m e a next)
+pub device_within : (t : List ℕ) (i : ℕ) (r : Result AdaptersLoad Fault) (m e a next : ℕ) → AdaptersWithin t i r → r ≡ adapters_loaded e a next → DeviceWithin t i (device_loaded m e a next)
 unfolding AdaptersWithin DeviceWithin
 device_within t i r m e a next h q = subst (λ x. AdaptersWithin t i x) q h
 
-pub device_refused : (t : List ℕ) (i : ℕ) (f : Fault) → DeviceWithin t i (device-load.Refused f)
+pub device_refused : (t : List ℕ) (i : ℕ) (f : Fault) → DeviceWithin t i (Err f)
 unfolding DeviceWithin
 device_refused t i f = le_refl 0
 
@@ -465,16 +463,16 @@ module _ (ds : List Description) (t : List ℕ) where
           },
         )
 
-    pub filling_end : length t ≤ i → filled_rows en ad ro ma (filled.Tables e a d) ≡ whole
+    pub filling_end : length t ≤ i → filled_rows en ad ro ma (filled_to e a d) ≡ whole
     unfolding filled_rows load_from
     filling_end h = sym (then_none (tables en ad ro ma e a d)) ∙ ap (λ g. and_then (value (tables en ad ro ma e a d)) (load_from ds d g.devices)) (sym (after_end t i h)) ∙ b.rest
 
-    pub filling_within : (n m k : ℕ) → length t ≤ 4 * n → length t ≤ m → length t ≤ 4 * k → FilledWithin n m k (filled.Tables e a d)
+    pub filling_within : (n m k : ℕ) → length t ≤ 4 * n → length t ≤ m → length t ≤ 4 * k → FilledWithin n m k (filled_to e a d)
     unfolding FilledWithin
     filling_within n m k x y z = (omega (arith, b), omega (arith, b), omega (arith, b))
 
     -- one more device
-    module _ (here : i < length t) (k : kind (word t i) ≡ 4 → ⊥) (en' ad' : List ℕ) (r : DeviceLoad) (same : device_load_rows d (device_at t i).route en' ad' r ≡ and_then (value (rows_so_far (take e en) (take a ad))) (load_device ds d (device_at t i))) where
+    module _ (here : i < length t) (k : kind (word t i) ≡ 4 → ⊥) (en' ad' : List ℕ) (r : Result DeviceLoad Fault) (same : device_load_rows d (device_at t i).route en' ad' r ≡ and_then (value (rows_so_far (take e en) (take a ad))) (load_device ds d (device_at t i))) where
       this_device : and_then (and_then (value (record { entries = []; adapters = []; devices = devices_in (take d ro) (take d ma) })) (device_load_rows d (device_at t i).route en' ad' r)) (load_from ds (suc d) (after t (i + 4)).devices) ≡ whole
       unfolding load_from
       this_device =
@@ -485,18 +483,18 @@ module _ (ds : List Description) (t : List ℕ) where
           ∙ ap (λ l. and_then (value (tables en ad ro ma e a d)) (load_from ds d l)) (sym (device_head_lem t i h.0 h.1).1)
           ∙ b.rest
 
-      pub filling_fault : (f : Fault) → r ≡ device-load.Refused f → refusal_of f ≡ whole
+      pub filling_fault : (f : Fault) → r ≡ Err f → refusal_of f ≡ whole
       unfolding device_load_rows
       filling_fault f q =
           let R = load_from ds (suc d) (after t (i + 4)).devices in
           let before : Rows = record { entries = []; adapters = []; devices = devices_in (take d ro) (take d ma) } in
           sym (ap (λ o. and_then o R) (ap (λ x. and_then (value before) (device_load_rows d (device_at t i).route en' ad' x)) q ∙ then_fault before f) ∙ fault_then f R) ∙ this_device
 
-      pub device_passed : (m e' a' next : ℕ) → r ≡ device-load.Device m e' a' next → DeviceWithin t (i + 4) r → ToDevice t (i + 4) e' a' next
+      pub device_passed : (m e' a' next : ℕ) → r ≡ device_loaded m e' a' next → DeviceWithin t (i + 4) r → ToDevice t (i + 4) e' a' next
       unfolding DeviceWithin
       device_passed m e' a' next q h = subst (λ x. DeviceWithin t (i + 4) x) q h
 
-      pub filling_next : (m e' a' next route : ℕ) → r ≡ device-load.Device m e' a' next → DeviceWithin t (i + 4) r → route ≡ (device_at t i).route → d < length ro → d < length ma → Filling ds t whole en' ad' (set ro d route) (set ma d m) e' a' (d + 1) next
+      pub filling_next : (m e' a' next route : ℕ) → r ≡ device_loaded m e' a' next → DeviceWithin t (i + 4) r → route ≡ (device_at t i).route → d < length ro → d < length ma → Filling ds t whole en' ad' (set ro d route) (set ma d m) e' a' (d + 1) next
       unfolding device_load_rows
       filling_next m e' a' next route q h z room room' =
           let g = device_passed m e' a' next q h in

@@ -4,7 +4,7 @@ use native.Mathlib.Omega.{arith}
 use mathlib.Core.Path.{◌≡◌, refl, sym, ap, ◌∙◌, subst}
 use mathlib.Core.Bool.{Bool, true, false, cond, not, ◌&&◌}
 use mathlib.Core.List.{List, [], ◌∷◌, map, ◌++◌}
-use mathlib.Core.Option.{Option, none, some}
+use Rattle.std.specs.Prelude.{Option, None, Some, Err, Ok, Result}
 use lib.Dec.{leb, eqb}
 use lib.ListN.{take}
 use borrow.Author.Tests.{leb-true, ne_eqb}
@@ -24,17 +24,15 @@ use Rattle.named.specs.Named.{Named}
 use Rattle.adapter.specs.Adapter.{kind_of, min_hop, narrow, max_hop_in, max_hop, parse_state, AdapterRow, adapter_site, few_registers, row_of, decode_of, max_hop_outcome, facts_row, decoded_outcome}
 use Rattle.adapter.specs.Paths.{PathEntry, entries_by, entries_of}
 use Rattle.adapter.specs.declared.Facts.{Facts}
-use Rattle.adapter.specs.declared.MaxHop.{MaxHop}
-use Rattle.adapter.specs.declared.MaxHop.TheVariants as most
-use Rattle.adapter.specs.declared.Decoded.{Decoded}
-use Rattle.adapter.specs.declared.Decoded.TheVariants as decoded
 use Rattle.tables.specs.Rows.{EntryRow, Rows, no_rows, joined}
 use Rattle.tables.specs.Packed.{adapter_word, entries_in}
 use Rattle.load.specs.Loading.{and_then, owned, own_rows, load_adapter}
 use Rattle.load.specs.Work.{HopFits, rows_so_far, pushed_rows, PushedWithin, adapter_rows, AdapterWithin}
+use Rattle.refusal.specs.declared.FieldError.{FieldError}
+use Rattle.refusal.specs.declared.FieldError.TheVariants as field
+use Rattle.load.specs.Work.{pushed_to}
+use Rattle.load.specs.Work.{adapter_loaded}
 use Rattle.load.specs.declared.Pushed.{Pushed}
-use Rattle.load.specs.declared.Pushed.TheVariants as pushed
-use Rattle.load.specs.declared.AdapterLoad.TheVariants as adapter-load
 
 -- a value is no refusal, and has one value
 abbrev is_value : {A : Type 0} → Outcome A → Type 0
@@ -57,21 +55,21 @@ refused_on : {A B : Type 0} (f : Fault) (k : A → Outcome B) → refusal_of f �
 refused_on f k = sym (fault_bind f k)
 
 -- a largest HopID that was found has sixteen bits
-some_fits : (v x : ℕ) (b : Bool) → leb x 65535 ≡ b → some v ≡ cond b (some x) none → v ≤ 65535
-some_fits v x true l e = let z : ◌≡◌ {A = Option ℕ} (some v) (some x) = e in let y : v ≡ x = cc in omega (arith, leb-true x 65535 l)
-some_fits v x false l e = let z : ◌≡◌ {A = Option ℕ} (some v) none = e in let y : ◌≡◌ {A = ℕ} 0 1 = cc in absurd (omega arith)
+some_fits : (v x : ℕ) (b : Bool) → leb x 65535 ≡ b → Some v ≡ cond b (Some x) None → v ≤ 65535
+some_fits v x true l e = let z : ◌≡◌ {A = Option ℕ} (Some v) (Some x) = e in let y : v ≡ x = cc in omega (arith, leb-true x 65535 l)
+some_fits v x false l e = let z : ◌≡◌ {A = Option ℕ} (Some v) None = e in let y : ◌≡◌ {A = ℕ} 0 1 = cc in absurd (omega arith)
 
-field_fits : (v : ℕ) (o : Outcome ℕ) → value (some v) ≡ bind o (λ x. value (narrow x)) → v ≤ 65535
+field_fits : (v : ℕ) (o : Outcome ℕ) → value (Some v) ≡ bind o (λ x. value (narrow x)) → v ≤ 65535
 unfolding bind narrow
-field_fits v (refused n vs) e = absurd (no_value (some v) n vs e)
+field_fits v (refused n vs) e = absurd (no_value (Some v) n vs e)
 field_fits v (value x) e = some_fits v x (leb x 65535) refl (same_value _ _ e)
 
-hop_fits : (s z : Site) (h : MaxHop) (o : Option Named) → max_hop_outcome s h ≡ max_hop_in z o → HopFits h
+hop_fits : (s z : Site) (h : Result (Option ℕ) FieldError) (o : Option Named) → max_hop_outcome s h ≡ max_hop_in z o → HopFits h
 unfolding HopFits max_hop_outcome max_hop_in
-hop_fits s z (most.Hop v) none e = let y : ◌≡◌ {A = Option ℕ} (some v) none = same_value _ _ e in let x : ◌≡◌ {A = ℕ} 0 1 = cc in absurd (omega arith)
-hop_fits s z (most.Hop v) (some n) e = field_fits v _ e
-hop_fits s z most.None o e = omega arith
-hop_fits s z most.NoField o e = omega arith
+hop_fits s z (Ok (Some v)) None e = let y : ◌≡◌ {A = Option ℕ} (Some v) None = same_value _ _ e in let x : ◌≡◌ {A = ℕ} 0 1 = cc in absurd (omega arith)
+hop_fits s z (Ok (Some v)) (Some n) e = field_fits v _ e
+hop_fits s z (Ok None) o e = omega arith
+hop_fits s z (Err field.NoField) o e = omega arith
 
 -- entries, then rows: refused by the entries' refusal, or made of them
 module _ (so : Rows) (h : List PathEntry → Rows) where
@@ -109,14 +107,14 @@ module _ (ds : List Description) (p : ℕ) (usb4 : Bool) (a : Adapter) where
   unfolding and_then load_adapter bind
   by_decode so o e = ap (λ z. bind (bind z (λ x. finish x)) (λ y. value (joined so y))) e
 
-  module _ (r : Decoded) (d : decoded_outcome p r ≡ decode_of ds p usb4 a) where
-    pub decode_refused : (x : Fault) → r ≡ decoded.Refused x → (so : Rows) → refusal_of x ≡ loads so
+  module _ (r : Result Facts Fault) (d : decoded_outcome p r ≡ decode_of ds p usb4 a) where
+    pub decode_refused : (x : Fault) → r ≡ Err x → (so : Rows) → refusal_of x ≡ loads so
     unfolding decoded_outcome
     decode_refused x k so =
         refused_on x (λ y. value (joined so y)) ∙ ap (λ o. bind o (λ y. value (joined so y))) (refused_on x (λ y. finish y))
         ∙ by_decode so (refusal_of x) (ap (decoded_outcome p) (sym k) ∙ d)
 
-    module _ (f : Facts) (k : r ≡ decoded.Adapter f) where
+    module _ (f : Facts) (k : r ≡ Ok f) where
       is_row : value (facts_row p f) ≡ decode_of ds p usb4 a
       unfolding decoded_outcome
       is_row = ap (decoded_outcome p) (sym k) ∙ d
@@ -160,7 +158,7 @@ module _ (ds : List Description) (p : ℕ) (usb4 : Bool) (a : Adapter) where
         dump_lane1 l = ap (λ b. eqb a.paths 2 && b) l ∙ and_false (eqb a.paths 2)
 
       -- its entries are put behind those so far, of the words before
-      module _ (l : (eqb a.paths 2 && not f.lane1) ≡ false) (before en : List ℕ) (q : Pushed)
+      module _ (l : (eqb a.paths 2 && not f.lane1) ≡ false) (before en : List ℕ) (q : Result Pushed FieldError)
           (z : pushed_rows (its_site f.number) en q ≡ bind (entries_by ds (its_site f.number) (type_number f.kind) a.entries (min_hop f.kind)) (λ es. value (entries_in before ++ map (owned p f.number) es))) where
         abbrev entries : Outcome (List PathEntry)
         entries = entries_of ds (adapter_site p a.number) a
@@ -177,13 +175,13 @@ module _ (ds : List Description) (p : ℕ) (usb4 : Bool) (a : Adapter) where
             ap (λ b. bind (cond b (refusal_of (NoPathDump (adapter_site p a.number))) (bind entries (λ es. value (own_rows p (facts_row p f) es)))) (λ y. value (joined so y))) (sym l)
             ∙ by_decode so (value (facts_row p f)) is_row
 
-        pub entries_refused : q ≡ pushed.NoField → (so : Rows) → refusal_of (NoField (its_site f.number)) ≡ loads so
+        pub entries_refused : q ≡ (Err field.NoField) → (so : Rows) → refusal_of (NoField (its_site f.number)) ≡ loads so
         unfolding pushed_rows refusal_of
         entries_refused m so =
             through_refusal so (own_rows p (facts_row p f)) entries (λ es. entries_in before ++ map (owned p f.number) es) 6 (at (its_site f.number)) (ap (pushed_rows (its_site f.number) en) (sym m) ∙ by_entries)
             ∙ to_loads so
 
-        pub entries_loaded : (c next : ℕ) → q ≡ pushed.Entries c next → (x : ℕ) → adapter_word x ≡ facts_row p f → adapter_rows en (adapter-load.Adapter x c next) ≡ loads (rows_so_far before [])
+        pub entries_loaded : (c next : ℕ) → q ≡ pushed_to c next → (x : ℕ) → adapter_word x ≡ facts_row p f → adapter_rows en (adapter_loaded x c next) ≡ loads (rows_so_far before [])
         unfolding pushed_rows adapter_rows rows_so_far own_rows joined facts_row
         entries_loaded c next m x e =
             through_value (rows_so_far before []) (own_rows p (facts_row p f)) entries (λ es. entries_in before ++ map (owned p f.number) es) (entries_in (take c en)) (ap (pushed_rows (its_site f.number) en) (sym m) ∙ by_entries)
@@ -196,11 +194,11 @@ pub its_paths : (t : List ℕ) (i w : ℕ) → w ≡ word t i → w / 512 % 4 �
 unfolding adapter_at
 its_paths t i w e = ap (λ z. z / 512 % 4) e
 
-pub its_end : (t : List ℕ) (i : ℕ) (q : Pushed) → PushedWithin t i q → (c next : ℕ) → q ≡ pushed.Entries c next → (x : ℕ) → AdapterWithin t i (adapter-load.Adapter x c next)
+pub its_end : (t : List ℕ) (i : ℕ) (q : Result Pushed FieldError) → PushedWithin t i q → (c next : ℕ) → q ≡ pushed_to c next → (x : ℕ) → AdapterWithin t i (adapter_loaded x c next)
 unfolding PushedWithin AdapterWithin
 its_end t i q h c next k x = subst (PushedWithin t i) k h
 
 -- the answer to a refusal
-pub refuses : (en t : List ℕ) (i : ℕ) (x : Fault) (o : Outcome Rows) → refusal_of x ≡ o → (adapter_rows en (adapter-load.Refused x) ≡ o) × AdapterWithin t i (adapter-load.Refused x)
+pub refuses : (en t : List ℕ) (i : ℕ) (x : Fault) (o : Outcome Rows) → refusal_of x ≡ o → (adapter_rows en (Err x) ≡ o) × AdapterWithin t i (Err x)
 unfolding adapter_rows AdapterWithin
 refuses en t i x o e = (e, omega arith)

@@ -4,7 +4,7 @@ use native.Mathlib.Omega.{arith}
 use mathlib.Core.Path.{◌≡◌, refl, ◌∙◌, ap, sym, subst}
 use mathlib.Core.Bool.{Bool, true, false, cond, not, ◌&&◌, ◌||◌, false≢true}
 use mathlib.Core.List.{List, [], ◌∷◌, ◌++◌, map}
-use mathlib.Core.Option.{Option, none, some}
+use Rattle.std.specs.Prelude.{Option, None, Some}
 use lib.Dec.{ltb, leb, eqb}
 use lib.ListN.{length}
 use borrow.Author.Tests.{ltb-true, leb-true, eqb-true, eqb-false, eq-eqb, not-true}
@@ -23,7 +23,6 @@ use Rattle.survey.specs.Words.{Group, group, cut, groups_of}
 use Rattle.survey.specs.Rules.{start, good_device, good_adapter, good_register, after_device, after_adapter, after_register, may_stand, step_of, step_by, size_by, on_step, first_bad, check_of, max_words}
 use Rattle.survey.specs.Devices.{Adapter, Device, Gathered, register_in, with_register, with_adapter, with_device, with_group, gather, devices_of, read_survey}
 use Rattle.survey.specs.declared.Under.{Under}
-use Rattle.survey.specs.declared.Step.TheVariants.{On, Broken}
 use Rattle.named.specs.Named.{Named, path_space, named, wanted_flag}
 use Rattle.usb4.specs.Numbers.{type_number}
 use Rattle.adapter.specs.Adapter.{AdapterRow, adapter_site, kind_of, min_hop, parse_state, few_registers, row_of, decode_of}
@@ -172,22 +171,22 @@ module _ (path lo : ℕ) (r : Register) (g : Gathered) where
 
 -- what a head leaves behind it, by the groups g behind it and the check F of them
 module _ (g : Gathered) (F : Under → Outcome Unit) (n : ℕ) (vs : List ℕ) (rest : (v : Under) → v.least ≤ 65535 → Holds (λ ok. Ordered (least_of v) g) (F v)) where
-  after_device_lem : (lo w a b c : ℕ) (good : Bool) → lo ≤ 65535 → Holds (λ ok. Ordered lo (with_device w a b c g)) (on_step (cond good (On (after_device w)) Broken) F (refused n vs))
+  after_device_lem : (lo w a b c : ℕ) (good : Bool) → lo ≤ 65535 → Holds (λ ok. Ordered lo (with_device w a b c g)) (on_step (cond good (Some (after_device w)) None) F (refused n vs))
   unfolding on_step with_device after_device least_in
   after_device_lem lo w a b c false l = holds_refused
   after_device_lem lo w a b c true l = holds_map (rest (after_device w) (omega arith)) (λ ok h. record { entries = l; adapters = omega arith; devices = (h.adapters, h.devices) })
 
-  after_adapter_lem : (lo w : ℕ) (good : Bool) → lo ≤ 65535 → Holds (λ ok. Ordered lo (with_adapter w g)) (on_step (cond good (On (after_adapter w)) Broken) F (refused n vs))
+  after_adapter_lem : (lo w : ℕ) (good : Bool) → lo ≤ 65535 → Holds (λ ok. Ordered lo (with_adapter w g)) (on_step (cond good (Some (after_adapter w)) None) F (refused n vs))
   unfolding on_step with_adapter after_adapter least_in
   after_adapter_lem lo w false l = holds_refused
   after_adapter_lem lo w true l = holds_map (rest (after_adapter w) (omega arith)) (λ ok h. record { entries = l; adapters = (h.entries, h.adapters); devices = h.devices })
 
-  after_register_lem : (u : Under) (w a b c : ℕ) (good : Bool) → Holds (λ ok. Ordered (least_of u) (with_register (bits w 16 16) (register_in w a b c) g)) (on_step (cond (good && may_stand u (bits w 16 16) (low w 15)) (On (after_register u w)) Broken) F (refused n vs))
+  after_register_lem : (u : Under) (w a b c : ℕ) (good : Bool) → Holds (λ ok. Ordered (least_of u) (with_register (bits w 16 16) (register_in w a b c) g)) (on_step (cond (good && may_stand u (bits w 16 16) (low w 15)) (Some (after_register u w)) None) F (refused n vs))
   unfolding on_step after_register register_in register_of
   after_register_lem u w a b c false = holds_refused
   after_register_lem u w a b c true = step (eqb (bits w 16 16) 0) refl (may_stand u (bits w 16 16) (low w 15)) refl
     where
-      step : (p : Bool) → eqb (bits w 16 16) 0 ≡ p → (m : Bool) → may_stand u (bits w 16 16) (low w 15) ≡ m → Holds (λ ok. Ordered (least_of u) (with_register (bits w 16 16) (register_in w a b c) g)) (on_step (cond m (On (after_register u w)) Broken) F (refused n vs))
+      step : (p : Bool) → eqb (bits w 16 16) 0 ≡ p → (m : Bool) → may_stand u (bits w 16 16) (low w 15) ≡ m → Holds (λ ok. Ordered (least_of u) (with_register (bits w 16 16) (register_in w a b c) g)) (on_step (cond m (Some (after_register u w)) None) F (refused n vs))
       step p e false k = holds_refused
       step true e true k = holds_map (rest (after_register u w) (omega arith)) (λ ok h. register_adapter _ _ _ g e (subst (λ l. Ordered l g) (sym (adapter_space_lem u _ _ k e)) h))
       step false e true k = holds_map (rest (after_register u w) (omega arith)) (λ ok h. register_path _ _ _ g e (path_space_lem u _ _ k e) (subst (λ l. Ordered l g) (path_least (bits w 16 16) (low w 15) (omega arith) e) h))
@@ -202,7 +201,7 @@ groups_ordered (group w a b c ∷ gs) i u l =
   where
     by_kind : (d n r : Bool) (g : Gathered) (F : Under → Outcome Unit) → ((v : Under) → v.least ≤ 65535 → Holds (λ ok. Ordered (least_of v) g) (F v)) →
         Holds (λ ok. Ordered (least_of u) (cond d (with_device w a b c g) (cond n (with_adapter w g) (cond r (with_register (bits w 16 16) (register_in w a b c) g) g))))
-        (on_step (cond d (cond (good_device w) (On (after_device w)) Broken) (cond n (cond (u.begun && good_adapter w) (On (after_adapter w)) Broken) (cond r (cond (good_register w b && may_stand u (bits w 16 16) (low w 15)) (On (after_register u w)) Broken) Broken))) F (refused 4 (i ∷ [])))
+        (on_step (cond d (cond (good_device w) (Some (after_device w)) None) (cond n (cond (u.begun && good_adapter w) (Some (after_adapter w)) None) (cond r (cond (good_register w b && may_stand u (bits w 16 16) (low w 15)) (Some (after_register u w)) None) None))) F (refused 4 (i ∷ [])))
     by_kind true n r g F h = after_device_lem g F 4 (i ∷ []) h (least_of u) w a b c (good_device w) (least_small u.listing u.least l)
     by_kind false true r g F h = after_adapter_lem g F 4 (i ∷ []) h (least_of u) w (u.begun && good_adapter w) (least_small u.listing u.least l)
     by_kind false false true g F h = after_register_lem g F 4 (i ∷ []) h u w a b c (good_register w b)
@@ -218,22 +217,22 @@ survey_placed s =
 -- ---- entries of path registers in order
 
 abbrev HopIs : ℕ → Option PathEntry → Type 0
-HopIs n none = 0 ≤ 0
-HopIs n (some e) = e.in_hop ≡ n
+HopIs n None = 0 ≤ 0
+HopIs n (Some e) = e.in_hop ≡ n
 
 entry_hop : (s : Site) (r : Register) (d : Option Description) → Holds (HopIs (r.offset / 2)) (entry_of s r d)
 unfolding entry_of entry_in
 entry_hop s r d = holds_bind (wanted_flag s r d (bytes_of "Valid")) (λ valid. entry_in s r d valid) holds_any (λ valid z. by_flag d valid)
   where
     by_flag : (d : Option Description) (valid : Bool) → Holds (HopIs (r.offset / 2)) (entry_in s r d valid)
-    by_flag none valid = holds_value (omega arith)
-    by_flag (some d) false = holds_value (omega arith)
-    by_flag (some d) true = holds_bind _ _ holds_any (λ hop z. holds_bind _ _ holds_any (λ out z. holds_value refl))
+    by_flag None valid = holds_value (omega arith)
+    by_flag (Some d) false = holds_value (omega arith)
+    by_flag (Some d) true = holds_bind _ _ holds_any (λ hop z. holds_bind _ _ holds_any (λ out z. holds_value refl))
 
 with_entry_lem : (lo n hi : ℕ) (e : Option PathEntry) (es : List PathEntry) → HopIs n e → lo ≤ n → Between (λ e. e.in_hop) n hi es → Between (λ e. e.in_hop) lo hi (with_entry e es)
 unfolding with_entry
-with_entry_lem lo n hi none es e l h = between_from (λ e. e.in_hop) lo n hi es l h
-with_entry_lem lo n hi (some x) es e l h = (omega arith, subst (λ z. Between (λ e. e.in_hop) z hi es) (sym e) h)
+with_entry_lem lo n hi None es e l h = between_from (λ e. e.in_hop) lo n hi es l h
+with_entry_lem lo n hi (Some x) es e l h = (omega arith, subst (λ z. Between (λ e. e.in_hop) z hi es) (sym e) h)
 
 module _ (ds : List Description) (s : Site) (k least : ℕ) where
   entries_between : (rs : List Register) (lo : ℕ) → Offsets lo rs → Holds (λ es. Between (λ e. e.in_hop) (lo / 2) 32767 es) (entries_from ds s k least rs)
@@ -251,8 +250,8 @@ unfolding entries_of entries_by
 entries_of_lem ds s a h = by_least (min_hop (kind_of a))
   where
     by_least : (m : Option ℕ) → Holds (λ es. Between (λ e. e.in_hop) 0 32767 es) (entries_by ds s (type_number (kind_of a)) a.entries m)
-    by_least none = holds_value (omega arith)
-    by_least (some least) = entries_between ds s (type_number (kind_of a)) least a.entries 0 h
+    by_least None = holds_value (omega arith)
+    by_least (Some least) = entries_between ds s (type_number (kind_of a)) least a.entries 0 h
 
 -- ---- rows with keys between bounds
 
@@ -324,8 +323,8 @@ module _ (ds : List Description) (p : ℕ) (d : Device) where
   fits_ready (a ∷ xs) = by_register (router_cs1 ds d)
     where
       by_register : (o : Option Named) → Holds (λ ok. Ready (a ∷ xs)) (fitting p (a ∷ xs) o)
-      by_register none = holds_fault _
-      by_register (some n) =
+      by_register None = holds_fault _
+      by_register (Some n) =
           holds_bind _ _ holds_any (λ most z. holds_bind _ _ holds_any (λ up z. holds_cond (numbered 1 (most % 256) (a ∷ xs)) _ _ (λ t. holds_value (record { most = most % 256; small = omega arith; all = t })) (λ t. holds_fault _)))
 
   device_within : Listed d.adapters → Holds (Within (entry_at p 0) (entry_at p 256) (adapter_at p 0) (adapter_at p 256)) (load_device ds p d)

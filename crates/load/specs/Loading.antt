@@ -1,6 +1,5 @@
 -- Document 01, "When it says no": what a survey loads to, device by device, and the first refusal on the way. Assumes nothing.
-use Rattle.std.specs.Prelude.{ℕ, suc, ◌%◌, Bool, cond, not, ◌&&◌, List, [], ◌∷◌, map, eqb, length}
-use Rattle.std.proofs.Math.Option.{Option, none, some}
+use Rattle.std.specs.Prelude.{ℕ, suc, ◌%◌, Bool, cond, not, ◌&&◌, List, [], ◌∷◌, map, eqb, length, Option, None, Some}
 use Rattle.refusal.specs.Outcome.{Outcome, value, bind}
 use Rattle.refusal.specs.Refusal.{refusal_of}
 use Rattle.refusal.specs.declared.Site.{Site}
@@ -52,12 +51,12 @@ load_adapters ds p usb4 (a ∷ rest) = and_then (load_adapter ds p usb4 a) (load
 
 -- ROUTER_CS_1 of a router whose registers were read
 unfoldable pub router_cs1 : List Description → Device → Option Named
-router_cs1 ds d = cond (eqb d.kind router && d.read) (by_name ds router_space 0 (bytes_of "ROUTER_CS_1") d.registers) none
+router_cs1 ds d = cond (eqb d.kind router && d.read) (by_name ds router_space 0 (bytes_of "ROUTER_CS_1") d.registers) None
 
 -- `upstream_adapter`: none without ROUTER_CS_1, else its field modulo 256, or 6
 unfoldable pub upstream_in : ℕ → Option Named → Outcome (Option ℕ)
-upstream_in p none = value none
-upstream_in p (some n) = bind (wanted_field (itself p) n (bytes_of "Upstream Adapter")) (λ v. value (some (v % 256)))
+upstream_in p None = value None
+upstream_in p (Some n) = bind (wanted_field (itself p) n (bytes_of "Upstream Adapter")) (λ v. value (Some (v % 256)))
 
 unfoldable pub device_row : List Description → ℕ → Device → DeviceRow
 device_row ds p d = record { kind = device_kind_of d.kind; usb4 = d.usb4; domain = d.domain; route = d.route; upstream = upstream_in p (router_cs1 ds d) }
@@ -67,8 +66,8 @@ device_rows ds p d = record { entries = []; adapters = []; devices = device_row 
 
 -- a device that has adapters: 7 for kind or name, 6 for Max then Upstream Adapter, 7 for the numbers
 unfoldable pub fitting : ℕ → List Adapter → Option Named → Outcome Unit
-fitting p adapters none = refusal_of (BadAdapters p)
-fitting p adapters (some n) =
+fitting p adapters None = refusal_of (BadAdapters p)
+fitting p adapters (Some n) =
     bind (wanted_field (itself p) n (bytes_of "Max Adapter"))
     (λ most. bind (wanted_field (itself p) n (bytes_of "Upstream Adapter"))
     (λ up. cond (numbered 1 (most % 256) adapters) (value tt) (refusal_of (BadAdapters p))))

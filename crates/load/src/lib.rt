@@ -16,52 +16,39 @@ ghost use Rattle.adapter.specs.Paths.{entries_from, entries_by};
 ghost use Rattle.tables.specs.Found.{upstream_outcome};
 ghost use Rattle.tables.specs.Packed.{speed_by, number_by, upstream_by, entry_word, adapter_word, device_word, entries_in};
 ghost use Rattle.load.specs.Loading.{and_then, owned, load_adapter, load_adapters, router_cs1, upstream_in, fitting, load_device, load_from, loaded};
-ghost use Rattle.load.specs.Answers.{loaded_rows, UsableBy, counts_of, counted_by};
-ghost use Rattle.load.specs.Work.{HopFits, rows_so_far, pushed_rows, FieldsAt, KeptFor, OneMore, PushedWithin, adapter_rows, AdapterWithin, adapters_rows, AdaptersWithin, fit_outcome, fits_by, device_load_rows, DeviceWithin, filled_rows, FilledWithin, into_rows, IntoWithin};
+ghost use Rattle.load.specs.Answers.{loaded_rows, UsableBy, counts_of};
+ghost use Rattle.load.specs.Work.{HopFits, rows_so_far, pushed_rows, FieldsAt, KeptFor, OneMore, PushedWithin, adapter_rows, AdapterWithin, adapters_rows, AdaptersWithin, fits_by, device_load_rows, DeviceWithin, filled_rows, FilledWithin, into_rows, IntoWithin};
+ghost use Rattle.refusal.specs.Refusal.{fault_outcome, outcome};
 
-use adapter::{Decoded, EntryFound, Facts, HopFound, MaxHop};
-use named::{FieldRead, NamedFound};
+use adapter::Facts;
+use named::NamedAt;
 use paths::EntryFields;
-use refusal::{Fault, Site};
-use state::SpeedFound;
-use tables::Upstream;
-use usb4::AdapterType;
+use refusal::{Fault, FieldError, Refusal, Site};
+use usb4::{AdapterType, Speed};
 
-// What a call on a survey refuses: 3, 4, a fault (5 to 13), or 14. specs/Answers.antt gives each its number and values.
+// How many words of each table are used: how many rows of each kind there are.
 #[derive(Clone, Copy)]
-pub enum Refusal {
-    Descriptions(usize),
-    Survey(usize),
-    Fault(Fault),
-    Missing,
-}
-
-// How many words of each table are used, or why there are none.
-#[derive(Clone, Copy)]
-pub enum LoadAnswer {
-    Tables {
-        entries: usize,
-        adapters: usize,
-        devices: usize,
-    },
-    Refused(Refusal),
+pub struct Counts {
+    pub entries: usize,
+    pub adapters: usize,
+    pub devices: usize,
 }
 
 // A loaded survey: entries and adapters a word each, in the survey's order, and devices a word in each of two tables. tables/specs/Packed.antt says what a word holds.
 #[derive(Drop)]
 pub struct Loaded {
-    pub answer: LoadAnswer,
+    pub answer: Result<Counts, Refusal>,
     pub entries: [u64; 4096],
     pub adapters: [u64; 16384],
     pub routes: [u64; 4096],
     pub marks: [u64; 4096],
 }
 
-// The entries so far, or 6.
+// The entries so far, and where the next register may stand.
 #[derive(Clone, Copy)]
-pub enum Pushed {
-    Entries { count: usize, next: usize },
-    NoField,
+pub struct Pushed {
+    pub count: usize,
+    pub next: usize,
 }
 
 // The fields of path registers with these ids.
@@ -72,56 +59,29 @@ pub struct Kept {
     pub fields: EntryFields,
 }
 
-// An adapter's word, the entries so far and where its words end, or what refuses it.
+// An adapter's word, the entries so far and where its words end.
 #[derive(Clone, Copy)]
-pub enum AdapterLoad {
-    Adapter {
-        word: u64,
-        entries: usize,
-        next: usize,
-    },
-    Refused(Fault),
+pub struct AdapterLoad {
+    pub word: u64,
+    pub entries: usize,
+    pub next: usize,
 }
 
-// The rows so far and where the next device stands, or what refuses them.
+// The rows so far and where the next device stands.
 #[derive(Clone, Copy)]
-pub enum AdaptersLoad {
-    Rows {
-        entries: usize,
-        adapters: usize,
-        next: usize,
-    },
-    Refused(Fault),
+pub struct AdaptersLoad {
+    pub entries: usize,
+    pub adapters: usize,
+    pub next: usize,
 }
 
-// Whether a device's adapters fit it.
+// A device's mark, the rows so far and where the next device stands.
 #[derive(Clone, Copy)]
-pub enum Fit {
-    Fits,
-    Refused(Fault),
-}
-
-// A device's mark, the rows so far and where the next device stands, or what refuses it.
-#[derive(Clone, Copy)]
-pub enum DeviceLoad {
-    Device {
-        mark: u64,
-        entries: usize,
-        adapters: usize,
-        next: usize,
-    },
-    Refused(Fault),
-}
-
-// How many words of each table are used, or the fault.
-#[derive(Clone, Copy)]
-pub enum Filled {
-    Tables {
-        entries: usize,
-        adapters: usize,
-        devices: usize,
-    },
-    Refused(Fault),
+pub struct DeviceLoad {
+    pub mark: u64,
+    pub entries: usize,
+    pub adapters: usize,
+    pub next: usize,
 }
 
 // An entry as a word.
@@ -137,24 +97,24 @@ fn entry_word(place: usize, adapter: u8, in_hop: u32, out_adapter: u8, out_hop: 
 }
 
 // A speed as a code: its number, or 4 where it is refused.
-fn speed_code(speed: SpeedFound) -> u64
+fn speed_code(speed: Result<Speed, FieldError>) -> u64
     ensures { (result < 16) × ((s : Site) → speed_by s result ≡ speed_outcome s speed) }
 {
     match speed {
-        SpeedFound::Speed(v) => usb4::speed_number(v) as u64,
-        SpeedFound::NoField => 4,
+        Ok(v) => usb4::speed_number(v) as u64,
+        Err(FieldError::NoField) => 4,
     }
 }
 
 // A largest HopID as a code: 0 none, 1 refused, else the number and 2.
-fn hop_code(hop: MaxHop) -> u64
+fn hop_code(hop: Result<Option<u32>, FieldError>) -> u64
     requires { HopFits hop }
     ensures { (result < 1048576) × ((s : Site) → number_by s result ≡ max_hop_outcome s hop) }
 {
     match hop {
-        MaxHop::Hop(h) => h as u64 + 2,
-        MaxHop::None => 0,
-        MaxHop::NoField => 1,
+        Ok(Some(h)) => h as u64 + 2,
+        Ok(None) => 0,
+        Err(FieldError::NoField) => 1,
     }
 }
 
@@ -185,18 +145,18 @@ fn adapter_word(place: usize, f: Facts) -> u64
 }
 
 // An upstream adapter as a code: 0 none, 1 refused, else the number and 2.
-fn upstream_code(upstream: Upstream) -> u64
+fn upstream_code(upstream: Result<Option<u8>, FieldError>) -> u64
     ensures { (result < 65536) × ((s : Site) → upstream_by s result ≡ upstream_outcome s upstream) }
 {
     match upstream {
-        Upstream::Adapter(a) => a as u64 + 2,
-        Upstream::None => 0,
-        Upstream::NoField => 1,
+        Ok(Some(a)) => a as u64 + 2,
+        Ok(None) => 0,
+        Err(FieldError::NoField) => 1,
     }
 }
 
 // A device's mark: USB4, kind, upstream adapter, domain.
-fn mark_word(kind: u32, usb4: bool, domain: u32, upstream: Upstream) -> u64
+fn mark_word(kind: u32, usb4: bool, domain: u32, upstream: Result<Option<u8>, FieldError>) -> u64
     requires { kind < 16 }
     ensures { (p route : ℕ) → device_word p route result ≡ record { kind = device_kind_of kind; usb4 = usb4; domain = domain; route = route; upstream = upstream_outcome (adapter_site p 0) upstream } }
 {
@@ -237,35 +197,36 @@ fn push_entry(
     site: Site,
     entries: &mut [u64],
     n: usize,
-) -> Pushed
+) -> Result<Pushed, FieldError>
     requires { (i + 4 ≤ length survey.now) × (n < length entries.old) × (site.place < 65536) × (least < 65536) }
     ensures rows { (ds : List Description) (k : ℕ) → FieldsAt ds k least (register_at survey.now i) fields → pushed_rows site entries.new result ≡ bind (entries_from ds site k least (register_at survey.now i ∷ [])) (λ es. value (entries_in (take n entries.old) ++ map (owned site.place site.adapter) es)) }
     ensures one_more { OneMore n (i + 4) result }
 {
     let offset = layout::word_at(survey, i) % 65536;
     if !hopids::looked_at(offset, least) {
-        return Pushed::Entries {
+        return Ok(Pushed {
             count: n,
             next: i + 4,
-        };
+        });
     }
-    match paths::entry_by(fields, layout::word_at(survey, i + 3)) {
-        EntryFound::NoField => Pushed::NoField,
-        EntryFound::Invalid => Pushed::Entries {
+    let read = paths::entry_by(fields, layout::word_at(survey, i + 3))?;
+    let Some(entry) = read else {
+        return Ok(Pushed {
             count: n,
             next: i + 4,
-        },
-        EntryFound::Entry {
-            out_adapter,
-            out_hop,
-        } => {
-            entries[n] = entry_word(site.place, site.adapter, offset / 2, out_adapter, out_hop);
-            Pushed::Entries {
-                count: n + 1,
-                next: i + 4,
-            }
-        }
-    }
+        });
+    };
+    entries[n] = entry_word(
+        site.place,
+        site.adapter,
+        offset / 2,
+        entry.out_adapter,
+        entry.out_hop,
+    );
+    Ok(Pushed {
+        count: n + 1,
+        next: i + 4,
+    })
 }
 
 // Puts the entries of the path registers from a place on behind the n that are there.
@@ -278,7 +239,7 @@ fn push_from(
     site: Site,
     entries: &mut [u64],
     n: usize,
-) -> Pushed
+) -> Result<Pushed, FieldError>
     requires { (from ≤ length survey.now) × (4 * n ≤ from) × (length survey.now ≤ 4 * length entries.old) × (site.place < 65536) × (least < 65536) }
     ensures rows { pushed_rows site entries.new result ≡ bind (entries_from (descriptions_of descriptions.now) site kind least (after survey.now from).entries) (λ es. value (entries_in (take n entries.old) ++ map (owned site.place site.adapter) es)) }
     ensures within { PushedWithin survey.now from result }
@@ -287,7 +248,7 @@ fn push_from(
     let mut at = from;
     let mut i = listing::next_register(survey, from, true);
     if survey.len() <= i {
-        return Pushed::Entries { count, next: at };
+        return Ok(Pushed { count, next: at });
     }
     let mut kept = Kept {
         ids: 0,
@@ -297,16 +258,14 @@ fn push_from(
     while i < survey.len() {
         kept = keep(descriptions, survey, i, kind, least, kept);
         let fields = kept.fields;
-        let Pushed::Entries { count: more, next } = push_entry(
+        let Pushed { count: more, next } = push_entry(
             survey, i, least, fields, site, entries, count,
-        ) else {
-            return Pushed::NoField;
-        };
+        )?;
         count = more;
         at = next;
         i = listing::next_register(survey, next, true);
     }
-    Pushed::Entries { count, next: at }
+    Ok(Pushed { count, next: at })
 }
 
 // The entries of the adapter whose head stands at a place: none where its kind has no least HopID.
@@ -318,16 +277,16 @@ fn push_entries(
     site: Site,
     entries: &mut [u64],
     n: usize,
-) -> Pushed
+) -> Result<Pushed, FieldError>
     requires { (at < length survey.now) × (4 * n ≤ at) × (length survey.now ≤ 4 * length entries.old) × (site.place < 65536) }
     ensures rows { pushed_rows site entries.new result ≡ bind (entries_by (descriptions_of descriptions.now) site (type_number kind) (after survey.now (at + 1)).entries (min_hop kind)) (λ es. value (entries_in (take n entries.old) ++ map (owned site.place site.adapter) es)) }
     ensures within { PushedWithin survey.now (at + 1) result }
 {
-    let HopFound::Hop(least) = hopids::min_hop(kind) else {
-        return Pushed::Entries {
+    let Some(least) = hopids::min_hop(kind) else {
+        return Ok(Pushed {
             count: n,
             next: at + 1,
-        };
+        });
     };
     push_from(
         descriptions,
@@ -350,17 +309,12 @@ fn load_adapter(
     place: usize,
     entries: &mut [u64],
     n: usize,
-) -> AdapterLoad
+) -> Result<AdapterLoad, Fault>
     requires { (at < length survey.now) × (4 * n ≤ at) × (length survey.now ≤ 4 * length entries.old) × (place < 65536) }
     ensures rows { adapter_rows entries.new result ≡ and_then (value (rows_so_far (take n entries.old) [])) (load_adapter (descriptions_of descriptions.now) place usb4 (adapter_at survey.now at)) }
     ensures within { AdapterWithin survey.now (at + 1) result }
 {
-    let facts = match adapter::decode(descriptions, survey, at, usb4, place) {
-        Decoded::Refused(fault) => {
-            return AdapterLoad::Refused(fault);
-        }
-        Decoded::Adapter(f) => f,
-    };
+    let facts = adapter::decode(descriptions, survey, at, usb4, place)?;
     let site = Site {
         place,
         adapter: facts.number,
@@ -369,25 +323,18 @@ fn load_adapter(
     let kind = facts.kind;
     if layout::word_at(survey, at) / 512 % 4 == 2 {
         if !lane1 {
-            return AdapterLoad::Refused(Fault::NoPathDump(site));
+            return Err(Fault::NoPathDump(site));
         }
     }
-    let Pushed::Entries { count, next } = push_entries(
-        descriptions,
-        survey,
-        at,
-        kind,
-        site,
-        entries,
-        n,
-    ) else {
-        return AdapterLoad::Refused(Fault::NoField(site));
+    let Ok(Pushed { count, next }) = push_entries(descriptions, survey, at, kind, site, entries, n)
+    else {
+        return Err(Fault::NoField(site));
     };
-    AdapterLoad::Adapter {
+    Ok(AdapterLoad {
         word: adapter_word(place, facts),
         entries: count,
         next,
-    }
+    })
 }
 
 // The adapters from a place on, up to the next device.
@@ -401,7 +348,7 @@ fn load_adapters(
     n: usize,
     adapters: &mut [u64],
     m: usize,
-) -> AdaptersLoad
+) -> Result<AdaptersLoad, Fault>
     requires { (from ≤ length survey.now) × (4 * n ≤ from) × (m ≤ from) × (length survey.now ≤ 4 * length entries.old) × (length survey.now ≤ length adapters.old) × (place < 65536) }
     ensures rows { adapters_rows entries.new adapters.new result ≡ and_then (value (rows_so_far (take n entries.old) (take m adapters.old))) (load_adapters (descriptions_of descriptions.now) place usb4 (after survey.now from).adapters) }
     ensures within { AdaptersWithin survey.now from result }
@@ -411,65 +358,58 @@ fn load_adapters(
     let mut i = listing::next_head(survey, from);
     while i < survey.len() {
         if survey[i] / 268435456 % 16 != 4 {
-            return AdaptersLoad::Rows {
+            return Ok(AdaptersLoad {
                 entries: count,
                 adapters: size,
                 next: i,
-            };
+            });
         }
-        match load_adapter(descriptions, survey, i, usb4, place, entries, count) {
-            AdapterLoad::Refused(fault) => {
-                return AdaptersLoad::Refused(fault);
-            }
-            AdapterLoad::Adapter {
-                word,
-                entries: more,
-                next,
-            } => {
-                adapters[size] = word;
-                size += 1;
-                count = more;
-                i = listing::next_head(survey, next);
-            }
-        }
+        let loaded = load_adapter(descriptions, survey, i, usb4, place, entries, count)?;
+        adapters[size] = loaded.word;
+        size += 1;
+        count = loaded.entries;
+        i = listing::next_head(survey, loaded.next);
     }
-    AdaptersLoad::Rows {
+    Ok(AdaptersLoad {
         entries: count,
         adapters: size,
         next: i,
-    }
+    })
 }
 
 // ROUTER_CS_1 of the device whose head stands at a place, if it is a router whose registers were read.
-fn router_cs_1(descriptions: &[u32], survey: &[u32], at: usize) -> NamedFound
+fn router_cs_1(descriptions: &[u32], survey: &[u32], at: usize) -> Option<NamedAt>
     requires { at + 4 ≤ length survey.now }
     ensures answer { named_at descriptions.now survey.now result ≡ router_cs1 (descriptions_of descriptions.now) (device_at survey.now at) }
     ensures within { Within (length survey.now) result }
 {
     let w = layout::word_at(survey, at);
     if w / 16777216 % 16 != 1 {
-        return NamedFound::Nowhere;
+        return None;
     }
     if w / 2 % 2 != 1 {
-        return NamedFound::Nowhere;
+        return None;
     }
     named::by_name(descriptions, survey, at + 4, 0, 0, b"ROUTER_CS_1")
 }
 
 // The upstream adapter by ROUTER_CS_1.
-fn upstream_of(descriptions: &[u32], survey: &[u32], cs1: NamedFound) -> Upstream
+fn upstream_of(
+    descriptions: &[u32],
+    survey: &[u32],
+    cs1: Option<NamedAt>,
+) -> Result<Option<u8>, FieldError>
     requires { Within (length survey.now) cs1 }
     ensures { (p : ℕ) → upstream_outcome (adapter_site p 0) result ≡ upstream_in p (named_at descriptions.now survey.now cs1) }
 {
-    let NamedFound::At { register, group } = cs1 else {
-        return Upstream::None;
+    let Some(NamedAt { register, group }) = cs1 else {
+        return Ok(None);
     };
     let value = layout::word_at(survey, register + 3);
-    let FieldRead::Value(up) = named::field_value(descriptions, group, value, b"Upstream Adapter")
-    else {
-        return Upstream::NoField;
+    let Ok(up) = named::field_value(descriptions, group, value, b"Upstream Adapter") else {
+        return Err(FieldError::NoField);
     };
-    Upstream::Adapter((up % 256) as u8)
+    Ok(Some((up % 256) as u8))
 }
 
 // Whether the adapters from a place on fit the device at a place: 7 for kind or name, 6 for Max then Upstream Adapter, 7 for the numbers.
@@ -478,28 +418,26 @@ fn fits_router(
     survey: &[u32],
     from: usize,
     place: usize,
-    cs1: NamedFound,
-) -> Fit
+    cs1: Option<NamedAt>,
+) -> Result<(), Fault>
     requires { Within (length survey.now) cs1 }
-    ensures { fit_outcome result ≡ fitting place (after survey.now from).adapters (named_at descriptions.now survey.now cs1) }
+    ensures { fault_outcome result ≡ fitting place (after survey.now from).adapters (named_at descriptions.now survey.now cs1) }
 {
-    let NamedFound::At { register, group } = cs1 else {
-        return Fit::Refused(Fault::BadAdapters(place));
+    let Some(NamedAt { register, group }) = cs1 else {
+        return Err(Fault::BadAdapters(place));
     };
     let site = Site { place, adapter: 0 };
     let value = layout::word_at(survey, register + 3);
-    let FieldRead::Value(most) = named::field_value(descriptions, group, value, b"Max Adapter")
-    else {
-        return Fit::Refused(Fault::NoField(site));
+    let Ok(most) = named::field_value(descriptions, group, value, b"Max Adapter") else {
+        return Err(Fault::NoField(site));
     };
-    let FieldRead::Value(_) = named::field_value(descriptions, group, value, b"Upstream Adapter")
-    else {
-        return Fit::Refused(Fault::NoField(site));
+    let Ok(_) = named::field_value(descriptions, group, value, b"Upstream Adapter") else {
+        return Err(Fault::NoField(site));
     };
     if !numbering::numbered_to(survey, from, most) {
-        return Fit::Refused(Fault::BadAdapters(place));
+        return Err(Fault::BadAdapters(place));
     }
-    Fit::Fits
+    Ok(())
 }
 
 // Whether a device that has adapters from a place on fits them; one that has none does.
@@ -508,17 +446,17 @@ fn fits_device(
     survey: &[u32],
     from: usize,
     place: usize,
-    cs1: NamedFound,
-) -> Fit
+    cs1: Option<NamedAt>,
+) -> Result<(), Fault>
     requires { Within (length survey.now) cs1 }
-    ensures { fit_outcome result ≡ fits_by place (after survey.now from).adapters (named_at descriptions.now survey.now cs1) }
+    ensures { fault_outcome result ≡ fits_by place (after survey.now from).adapters (named_at descriptions.now survey.now cs1) }
 {
     let i = listing::next_head(survey, from);
     if survey.len() <= i {
-        return Fit::Fits;
+        return Ok(());
     }
     if survey[i] / 268435456 % 16 != 4 {
-        return Fit::Fits;
+        return Ok(());
     }
     fits_router(descriptions, survey, from, place, cs1)
 }
@@ -533,7 +471,7 @@ fn load_device(
     n: usize,
     adapters: &mut [u64],
     m: usize,
-) -> DeviceLoad
+) -> Result<DeviceLoad, Fault>
     requires { (at + 4 ≤ length survey.now) × (4 * n ≤ at) × (m ≤ at) × (length survey.now ≤ 4 * length entries.old) × (length survey.now ≤ length adapters.old) × (place < 65536) }
     ensures rows { device_load_rows place (device_at survey.now at).route entries.new adapters.new result ≡ and_then (value (rows_so_far (take n entries.old) (take m adapters.old))) (load_device (descriptions_of descriptions.now) place (device_at survey.now at)) }
     ensures within { DeviceWithin survey.now (at + 4) result }
@@ -541,13 +479,11 @@ fn load_device(
     let w = layout::word_at(survey, at);
     if w / 2 % 2 == 1 {
         if survey.len() <= listing::next_register(survey, at + 4, false) {
-            return DeviceLoad::Refused(Fault::FewRegisters(Site { place, adapter: 0 }));
+            return Err(Fault::FewRegisters(Site { place, adapter: 0 }));
         }
     }
     let cs1 = router_cs_1(descriptions, survey, at);
-    if let Fit::Refused(fault) = fits_device(descriptions, survey, at + 4, place, cs1) {
-        return DeviceLoad::Refused(fault);
-    }
+    fits_device(descriptions, survey, at + 4, place, cs1)?;
     let usb4 = w % 2 == 1;
     let upstream = upstream_of(descriptions, survey, cs1);
     let mark = mark_word(
@@ -556,7 +492,7 @@ fn load_device(
         layout::word_at(survey, at + 1),
         upstream,
     );
-    match load_adapters(
+    let rows = load_adapters(
         descriptions,
         survey,
         at + 4,
@@ -566,19 +502,13 @@ fn load_device(
         n,
         adapters,
         m,
-    ) {
-        AdaptersLoad::Refused(fault) => DeviceLoad::Refused(fault),
-        AdaptersLoad::Rows {
-            entries: e,
-            adapters: a,
-            next,
-        } => DeviceLoad::Device {
-            mark,
-            entries: e,
-            adapters: a,
-            next,
-        },
-    }
+    )?;
+    Ok(DeviceLoad {
+        mark,
+        entries: rows.entries,
+        adapters: rows.adapters,
+        next: rows.next,
+    })
 }
 
 // All devices, one after another.
@@ -589,7 +519,7 @@ fn fill(
     adapters: &mut [u64],
     routes: &mut [u64],
     marks: &mut [u64],
-) -> Filled
+) -> Result<Counts, Fault>
     requires { (length survey.now ≤ 4 * length entries.old) × (length survey.now ≤ length adapters.old) × (length survey.now ≤ 4 * length routes.old) × (length routes.old ≡ length marks.old) × (length survey.now ≤ 262144) }
     ensures rows { filled_rows entries.new adapters.new routes.new marks.new result ≡ load_from (descriptions_of descriptions.now) 0 (devices_of survey.now) }
     ensures within { FilledWithin (length entries.old) (length adapters.old) (length routes.old) result }
@@ -604,31 +534,20 @@ fn fill(
         } else {
             let low = layout::word_at(survey, i + 2) as u64;
             let high = layout::word_at(survey, i + 3) as u64;
-            match load_device(descriptions, survey, i, place, entries, n, adapters, m) {
-                DeviceLoad::Refused(fault) => {
-                    return Filled::Refused(fault);
-                }
-                DeviceLoad::Device {
-                    mark,
-                    entries: e,
-                    adapters: a,
-                    next,
-                } => {
-                    routes[place] = low + high * 4294967296;
-                    marks[place] = mark;
-                    place += 1;
-                    n = e;
-                    m = a;
-                    i = next;
-                }
-            }
+            let device = load_device(descriptions, survey, i, place, entries, n, adapters, m)?;
+            routes[place] = low + high * 4294967296;
+            marks[place] = device.mark;
+            place += 1;
+            n = device.entries;
+            m = device.adapters;
+            i = device.next;
         }
     }
-    Filled::Tables {
+    Ok(Counts {
         entries: n,
         adapters: m,
         devices: place,
-    }
+    })
 }
 
 // 3, then 4, then loading, into tables that have room for any survey.
@@ -639,29 +558,14 @@ fn load_into(
     adapters: &mut [u64],
     routes: &mut [u64],
     marks: &mut [u64],
-) -> LoadAnswer
+) -> Result<Counts, Refusal>
     requires { (length entries.old ≡ 4096) × (length adapters.old ≡ 16384) × (length routes.old ≡ 4096) × (length marks.old ≡ 4096) }
     ensures rows { into_rows entries.new adapters.new routes.new marks.new result ≡ loaded descriptions.now survey.now }
     ensures within { IntoWithin result }
 {
-    if let description::Checked::Refused(p) = description::check(descriptions) {
-        return LoadAnswer::Refused(Refusal::Descriptions(p));
-    }
-    if let survey::Checked::Refused(p) = wellformed::check(survey) {
-        return LoadAnswer::Refused(Refusal::Survey(p));
-    }
-    match fill(descriptions, survey, entries, adapters, routes, marks) {
-        Filled::Refused(fault) => LoadAnswer::Refused(Refusal::Fault(fault)),
-        Filled::Tables {
-            entries: e,
-            adapters: a,
-            devices: d,
-        } => LoadAnswer::Tables {
-            entries: e,
-            adapters: a,
-            devices: d,
-        },
-    }
+    description::check(descriptions)?;
+    wellformed::check(survey)?;
+    Ok(fill(descriptions, survey, entries, adapters, routes, marks)?)
 }
 
 // A survey, loaded: every fault of loading is met here, in document 01's order, and nothing is looked up by name afterwards.
@@ -691,8 +595,8 @@ pub fn load(descriptions: &[u32], survey: &[u32]) -> Loaded
 }
 
 // How many rows of each kind a survey loads to, or why it is refused: as `load`, with no tables to hand out.
-pub fn accept(descriptions: &[u32], survey: &[u32]) -> LoadAnswer
-    ensures { counted_by result ≡ bind (loaded descriptions.now survey.now) (λ x. value (counts_of x)) }
+pub fn accept(descriptions: &[u32], survey: &[u32]) -> Result<Counts, Refusal>
+    ensures { outcome result ≡ bind (loaded descriptions.now survey.now) (λ x. value (counts_of x)) }
 {
     let mut entries = [0u64; 4096];
     let mut adapters = [0u64; 16384];

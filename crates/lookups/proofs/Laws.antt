@@ -2,9 +2,9 @@
 use Prim.Native.Nat.{ℕ, ◌≤◌, ◌<◌}
 use native.Mathlib.Omega.{arith}
 use mathlib.Core.Path.{◌≡◌, refl, ap, sym, ◌∙◌}
-use mathlib.Core.Bool.{true, false, true≢false}
+use mathlib.Core.Bool.{true, true≢false}
 use mathlib.Core.List.{List, [], ◌∷◌, ◌++◌}
-use mathlib.Core.Option.{some}
+use Rattle.std.specs.Prelude.{Some}
 use lib.ListN.{length, take, drop}
 use lib.Seq.{take_all}
 use borrow.Author.Tests.{lt-ltb, le-ltb}
@@ -16,7 +16,7 @@ use Rattle.lookups.specs.Handed.{HandedOut}
 pub all_copied : (d s : List ℕ) (i : ℕ) → i ≡ length s → take i s ++ drop i d ≡ s ++ drop (length s) d
 all_copied d s i e = ap (λ n. take n s ++ drop n d) e ∙ ap (λ l. l ++ drop (length s) d) (take_all (length s) s (omega arith))
 
-result_answered : (n : ℕ) → answered (said (value (some (one n)))) ≡ true
+result_answered : (n : ℕ) → answered (said (value (Some (one n)))) ≡ true
 unfolding answered said padded one
 result_answered n = refl
 
@@ -29,7 +29,7 @@ module _ (words output a : List ℕ) where
       let room : in_room (length output) words ≡ refused 2 (length words ∷ []) = simp l in
       record { says = f ∙ sym (ap (λ o. said (always one o)) room); writes = sym (simp l); kept = λ h. refl }
 
-  pub all_handed : length words ≤ length output → (output' : List ℕ) → output' ≡ words ++ drop (length words) output → a ≡ said (value (some (one (length words)))) → HandedOut words output output' a
+  pub all_handed : length words ≤ length output → (output' : List ℕ) → output' ≡ words ++ drop (length words) output → a ≡ said (value (Some (one (length words)))) → HandedOut words output output' a
   unfolding in_room output_by always bind
   all_handed h output' wrote f =
       let l = le-ltb (length output) (length words) h in

@@ -2,53 +2,54 @@
 #![tactic(auto)]
 
 ghost use Rattle.std.specs.Prelude.{◌≤◌, ◌≡◌, ◌++◌, length, drop};
-ghost use Rattle.description.specs.Rules.{checked_outcome};
-ghost use Rattle.survey.specs.Rules.{checked_outcome as survey_outcome};
-ghost use Rattle.metadata.specs.Calls.{described_outcome, field_outcome};
 ghost use Rattle.answers.specs.Said.{said, always, perhaps, one, bare};
 ghost use Rattle.lookups.specs.Handed.{HandedOut, OursSaid};
+ghost use Rattle.refusal.specs.Refusal.{outcome};
 
-use metadata::{Described, FieldValue};
+use refusal::Refusal;
 
-// Whether description words are well formed.
-pub fn descriptions(answer: description::Checked) -> [u64; 8]
-    ensures { result ≡ said (always bare (checked_outcome answer)) }
+// Whether words are well formed.
+fn checked(answer: Result<(), Refusal>) -> [u64; 8]
+    ensures { result ≡ said (always bare (outcome answer)) }
 {
     match answer {
-        description::Checked::WellFormed => [0, 1, 0, 0, 0, 0, 0, 0],
-        description::Checked::Refused(p) => [3, p as u64, 0, 0, 0, 0, 0, 0],
+        Ok(()) => [0, 1, 0, 0, 0, 0, 0, 0],
+        Err(refusal) => answers::refused(refusal),
     }
+}
+
+// Whether description words are well formed.
+pub fn descriptions(descriptions: Result<(), Refusal>) -> [u64; 8]
+    ensures { result ≡ said (always bare (outcome descriptions)) }
+{
+    checked(descriptions)
 }
 
 // Whether survey words are well formed.
-pub fn survey(answer: survey::Checked) -> [u64; 8]
-    ensures { result ≡ said (always bare (survey_outcome answer)) }
+pub fn survey(survey: Result<(), Refusal>) -> [u64; 8]
+    ensures { result ≡ said (always bare (outcome survey)) }
 {
-    match answer {
-        survey::Checked::WellFormed => [0, 1, 0, 0, 0, 0, 0, 0],
-        survey::Checked::Refused(p) => [4, p as u64, 0, 0, 0, 0, 0, 0],
-    }
+    checked(survey)
 }
 
 // The head place of the group that names a register, or none.
-pub fn described(answer: Described) -> [u64; 8]
-    ensures { result ≡ said (perhaps one (described_outcome answer)) }
+pub fn described(answer: Result<Option<usize>, Refusal>) -> [u64; 8]
+    ensures { result ≡ said (perhaps one (outcome answer)) }
 {
     match answer {
-        Described::Group(p) => [0, 1, p as u64, 0, 0, 0, 0, 0],
-        Described::Nameless => [0; 8],
-        Described::Refused(p) => [3, p as u64, 0, 0, 0, 0, 0, 0],
+        Ok(Some(place)) => [0, 1, place as u64, 0, 0, 0, 0, 0],
+        Ok(None) => [0; 8],
+        Err(refusal) => answers::refused(refusal),
     }
 }
 
 // A field's value.
-pub fn field(answer: FieldValue) -> [u64; 8]
-    ensures { result ≡ said (always one (field_outcome answer)) }
+pub fn field(answer: Result<u32, Refusal>) -> [u64; 8]
+    ensures { result ≡ said (always one (outcome answer)) }
 {
     match answer {
-        FieldValue::Value(v) => [0, 1, v as u64, 0, 0, 0, 0, 0],
-        FieldValue::Refused(p) => [3, p as u64, 0, 0, 0, 0, 0, 0],
-        FieldValue::NoField => [6, 0, 0, 0, 0, 0, 0, 0],
+        Ok(value) => [0, 1, value as u64, 0, 0, 0, 0, 0],
+        Err(refusal) => answers::refused(refusal),
     }
 }
 
@@ -57,10 +58,8 @@ fn copy(from: &[u32], to: &mut [u32])
     requires { length from.now ≤ length to.old }
     ensures { to.new ≡ from.now ++ drop (length from.now) to.old }
 {
-    let mut i: usize = 0;
-    while i < from.len() {
-        to[i] = from[i];
-        i += 1;
+    for (i, &word) in from.iter().enumerate() {
+        to[i] = word;
     }
 }
 

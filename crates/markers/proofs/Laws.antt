@@ -1,51 +1,29 @@
 -- Laws of markers. Assumes nothing.
-use Prim.Native.Nat.{ℕ, suc, ◌+◌, ◌≤◌, ◌<◌}
+use Rattle.std.specs.Prelude.{None, Some}
+use Prim.Native.Nat.{ℕ, ◌≤◌, ◌<◌}
 use native.Mathlib.Omega.{arith}
-use native.Mathlib.Numerals.{add-one}
 use mathlib.Core.Path.{◌≡◌, refl, sym, ap, ◌∙◌}
-use mathlib.Core.Bool.{Bool, true, false, ◌&&◌}
+use mathlib.Core.Bool.{true, false, ◌&&◌}
 use mathlib.Core.List.{List, [], ◌∷◌}
 use lib.Dec.{eqb}
-use lib.ListN.{length, get_or, drop, drop_of_length-le}
-use lib.Seq.{drop-cons}
-use borrow.Author.Tests.{eq-eqb, ne_eqb, le-leb, lt-leb}
+use lib.Pointwise.{pointwise}
+use lib.ListN.{length, get_or}
+use borrow.Author.Tests.{le-leb, lt-leb}
 use Rattle.scan.specs.Scan.{tokens}
 use Rattle.scan.specs.declared.Span.{Span}
 use Rattle.scan.proofs.Laws.{Spans}
 use Rattle.util.specs.Number.{hex_number, decimal_number}
 use Rattle.util.specs.Text.{bytes_of}
-use Rattle.util.specs.declared.Number.TheVariants.{Value, None}
 use Rattle.util.proofs.Laws.{decimal_le}
 use Rattle.markers.specs.Markers.{router, xdomain, usb4, regs, adapter, paths, no_paths, bad, same, plain_marker, adapter_by, adapter_marker, with_number, device_marker, by_tokens, marker_of}
 
--- texts of different lengths
-pub same_long : (a b : List ℕ) → (length a ≡ length b → ⊥) → same a b ≡ false
+-- what `==` says of two texts
+pub same_lem : (a b : List ℕ) → pointwise eqb a b ≡ same a b
 unfolding same
-same_long [] [] n = absurd (n refl)
-same_long [] (y ∷ ys) n = refl
-same_long (x ∷ xs) [] n = refl
-same_long (x ∷ xs) (y ∷ ys) n = go (eqb x y) (same_long xs ys (λ e. n (ap suc e)))
-  where
-    go : (b : Bool) → same xs ys ≡ false → (b && same xs ys) ≡ false
-    go true e = e
-    go false e = refl
-
--- the comparing loop: what is left from byte i on
-module _ (a b : List ℕ) (i : ℕ) where
-  same_step : i < length a → i < length b → same (drop i a) (drop i b) ≡ (eqb (get_or a i 0) (get_or b i 0) && same (drop (i + 1) a) (drop (i + 1) b))
-  unfolding same
-  same_step l m = rw (drop-cons a i 0 l, drop-cons b i 0 m, add-one i) refl
-
-  module _ (h : same a b ≡ same (drop i a) (drop i b)) where
-    pub same_more : i < length a → i < length b → get_or a i 0 ≡ get_or b i 0 → same a b ≡ same (drop (i + 1) a) (drop (i + 1) b)
-    same_more l m e = h ∙ same_step l m ∙ simp (eq-eqb _ _ e)
-
-    pub same_other : i < length a → i < length b → (get_or a i 0 ≡ get_or b i 0 → ⊥) → same a b ≡ false
-    same_other l m e = h ∙ same_step l m ∙ simp (ne_eqb _ _ e)
-
-    pub same_all : length a ≤ i → length b ≤ i → same a b ≡ true
-    unfolding same
-    same_all l m = h ∙ rw (drop_of_length-le a l, drop_of_length-le b m) refl
+same_lem [] [] = refl
+same_lem [] (y ∷ ys) = refl
+same_lem (x ∷ xs) [] = refl
+same_lem (x ∷ xs) (y ∷ ys) = ap (λ t. eqb x y && t) (same_lem xs ys)
 
 -- a marker of one token, by the tests in their order
 module _ (t : List ℕ) where
@@ -83,7 +61,7 @@ module _ (t n : List ℕ) where
     unfolding adapter_marker adapter_by
     adapter_none e = simp (h, e)
 
-    module _ (v : ℕ) (e : decimal_number 65535 n ≡ Value v) where
+    module _ (v : ℕ) (e : decimal_number 65535 n ≡ Some v) where
       pub adapter_zero : v < 1 → bad ≡ adapter_marker t n
       unfolding adapter_marker adapter_by
       adapter_zero l = simp (h, e, lt-leb 1 v l)
@@ -97,7 +75,7 @@ module _ (t n : List ℕ) where
       adapter_is l m = simp (h, e, le-leb 1 v l, le-leb v 255 m)
 
 -- a marker of three
-pub domain_fits : (d : List ℕ) (m : ℕ) → decimal_number 4294967295 d ≡ Value m → m < 4294967296
+pub domain_fits : (d : List ℕ) (m : ℕ) → decimal_number 4294967295 d ≡ Some m → m < 4294967296
 domain_fits d m e = omega (arith, decimal_le 4294967295 d m e)
 
 module _ (t d r : List ℕ) where
@@ -105,12 +83,12 @@ module _ (t d r : List ℕ) where
   unfolding device_marker with_number
   domain_none e = simp e
 
-  module _ (m : ℕ) (em : decimal_number 4294967295 d ≡ Value m) where
+  module _ (m : ℕ) (em : decimal_number 4294967295 d ≡ Some m) where
     pub route_none : hex_number 18446744073709551615 r ≡ None → bad ≡ device_marker t d r
     unfolding device_marker with_number
     route_none e = simp (em, e)
 
-    module _ (n : ℕ) (en : hex_number 18446744073709551615 r ≡ Value n) where
+    module _ (n : ℕ) (en : hex_number 18446744073709551615 r ≡ Some n) where
       pub is_router_lem : same t (bytes_of "@router") ≡ true → router m n ≡ device_marker t d r
       unfolding device_marker with_number
       is_router_lem e = simp (em, en, e)

@@ -1,9 +1,7 @@
 -- Document 01, the program's text: markers. Assumes nothing.
-use Rattle.std.specs.Prelude.{ℕ, Bool, true, false, cond, ◌&&◌, List, [], ◌∷◌, eqb, leb, length, get_or}
+use Rattle.std.specs.Prelude.{ℕ, Bool, true, false, cond, ◌&&◌, List, [], ◌∷◌, eqb, leb, get_or, None, Option, Some}
 use Rattle.util.specs.Number.{hex_number, decimal_number}
 use Rattle.util.specs.Text.{bytes_of}
-use Rattle.util.specs.declared.Number.{Number}
-use Rattle.util.specs.declared.Number.TheVariants as number
 use Rattle.scan.specs.Scan.{tokens}
 use Rattle.markers.specs.declared.Mark.{Mark}
 use Rattle.markers.specs.declared.Mark.TheVariants as mark
@@ -38,17 +36,17 @@ plain_marker t =
     (cond (same t (bytes_of "@nopaths")) no_paths bad)))
 
 -- `@adapter N`: decimal of 16 bits, 1 to 255
-unfoldable pub adapter_by : Number → Marker
-adapter_by number.None = bad
-adapter_by (number.Value n) = cond (leb 1 n && leb n 255) (adapter n) bad
+unfoldable pub adapter_by : Option ℕ → Marker
+adapter_by None = bad
+adapter_by (Some n) = cond (leb 1 n && leb n 255) (adapter n) bad
 
 unfoldable pub adapter_marker : List ℕ → List ℕ → Marker
 adapter_marker t n = cond (same t (bytes_of "@adapter")) (adapter_by (decimal_number 65535 n)) bad
 
 -- `@router DOMAIN ROUTE`, `@xdomain` likewise: decimal of 32 bits, hex of 64
-unfoldable pub with_number : Number → (ℕ → Marker) → Marker
-with_number number.None f = bad
-with_number (number.Value v) f = f v
+unfoldable pub with_number : Option ℕ → (ℕ → Marker) → Marker
+with_number None f = bad
+with_number (Some v) f = f v
 
 unfoldable pub device_marker : List ℕ → List ℕ → List ℕ → Marker
 device_marker t d r = with_number (decimal_number 4294967295 d) (λ m. with_number (hex_number 18446744073709551615 r) (λ n.

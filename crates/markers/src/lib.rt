@@ -1,11 +1,10 @@
 // Markers of the program's text.
 #![tactic(auto)]
 
-ghost use Rattle.std.specs.Prelude.{◌≡◌, ◌-◌, ◌≤◌, length, take, drop};
+ghost use Rattle.std.specs.Prelude.{◌≡◌};
 ghost use Rattle.markers.specs.Markers.{same, plain_marker, adapter_marker, device_marker, marker_of, marker_by};
 
-use scan::Span;
-use util::{MAX_16, MAX_32, MAX_64, Number};
+use util::{MAX_16, MAX_32, MAX_64};
 
 // What a marker says.
 #[derive(Clone, Copy)]
@@ -24,17 +23,7 @@ pub enum Mark {
 fn is_text(a: &[u8], b: &[u8]) -> bool
     ensures { result ≡ same a.now b.now }
 {
-    if a.len() != b.len() {
-        return false;
-    }
-    let mut i: usize = 0;
-    while i < a.len() {
-        if a[i] != b[i] {
-            return false;
-        }
-        i += 1;
-    }
-    true
+    a == b
 }
 
 // A marker of one token.
@@ -63,7 +52,7 @@ fn adapter(t: &[u8], n: &[u8]) -> Mark
     if !is_text(t, b"@adapter") {
         return Mark::Bad;
     }
-    let Number::Value(number) = util::parse_decimal(n, MAX_16) else {
+    let Some(number) = util::parse_decimal(n, MAX_16) else {
         return Mark::Bad;
     };
     if number < 1 {
@@ -79,10 +68,10 @@ fn adapter(t: &[u8], n: &[u8]) -> Mark
 fn device(t: &[u8], d: &[u8], r: &[u8]) -> Mark
     ensures { marker_by result ≡ device_marker t.now d.now r.now }
 {
-    let Number::Value(domain) = util::parse_decimal(d, MAX_32) else {
+    let Some(domain) = util::parse_decimal(d, MAX_32) else {
         return Mark::Bad;
     };
-    let Number::Value(route) = util::parse_hex(r, MAX_64) else {
+    let Some(route) = util::parse_hex(r, MAX_64) else {
         return Mark::Bad;
     };
     let domain = domain as u32;
@@ -93,16 +82,6 @@ fn device(t: &[u8], d: &[u8], r: &[u8]) -> Mark
         return Mark::Xdomain { domain, route };
     }
     Mark::Bad
-}
-
-// The part of a line that a span says.
-fn part(s: &[u8], t: Span) -> &[u8]
-    requires { (t.start ≤ t.end) × (t.end ≤ length s.now) }
-    ensures { result.now ≡ take (t.end - t.start) (drop t.start s.now) }
-{
-    let start = t.start;
-    let end = t.end;
-    &s[start..end]
 }
 
 // What a line whose first byte is `@` says as a marker.
@@ -119,13 +98,13 @@ pub fn marker(line: &[u8]) -> Mark
     if d.start < line.len() {
         return Mark::Bad;
     }
-    let ta = part(line, a);
+    let ta = scan::part(line, a);
     if line.len() <= b.start {
         return plain(ta);
     }
-    let tb = part(line, b);
+    let tb = scan::part(line, b);
     if line.len() <= c.start {
         return adapter(ta, tb);
     }
-    device(ta, tb, part(line, c))
+    device(ta, tb, scan::part(line, c))
 }

@@ -2,7 +2,7 @@
 use Prim.Native.Nat.{ℕ}
 use mathlib.Core.Path.{◌≡◌, refl}
 use mathlib.Core.List.{List, [], ◌∷◌, ◌++◌}
-use mathlib.Core.Option.{none, some}
+use Rattle.std.specs.Prelude.{None, Some}
 use Rattle.refusal.specs.Outcome.{refused, value, bind}
 use Rattle.util.specs.Bits.{bits_of}
 use Rattle.layout.specs.Layout.{byte_at, bytes_from, name_bytes, size_of, heads_from, keep, is_register, registers}
@@ -46,15 +46,15 @@ cap_four : ℕ → Sought
 cap_four kind = record { space = 1; kind = kind; offset = 0; cap = 4; vs = 0 }
 
 -- of a PCIe Down adapter it is ADP_PCIE_CS_0; of a lane it is nameless, and of both where the description stands twice
-pcie : place_of (naming (cap_four 6) ours) ≡ some 53
+pcie : place_of (naming (cap_four 6) ours) ≡ Some 53
 unfolding cap_four is is_none kind_fits cap_fits vs_fits fits only naming place_of keep bits_named plain capped ours
 pcie = refl
 
-lane : place_of (naming (cap_four 2) ours) ≡ none
+lane : place_of (naming (cap_four 2) ours) ≡ None
 unfolding cap_four is is_none kind_fits cap_fits vs_fits fits only naming place_of keep bits_named plain capped ours
 lane = refl
 
-twice : place_of (naming (cap_four 6) (ours ++ ours)) ≡ none
+twice : place_of (naming (cap_four 6) (ours ++ ours)) ≡ None
 unfolding cap_four is is_none kind_fits cap_fits vs_fits fits only naming place_of keep bits_named plain capped ours
 twice = refl
 

@@ -3,7 +3,7 @@ use Prim.Native.Nat.{ℕ, zero, suc, ◌+◌, ◌/◌, ◌%◌, ◌≤◌, ◌<�
 use mathlib.Core.Path.{◌≡◌, refl, sym, ap, ◌∙◌, subst}
 use mathlib.Core.List.{List, [], ◌∷◌, map}
 use mathlib.Core.Bool.{Bool, true, false, cond, ◌&&◌, false≢true}
-use mathlib.Core.Option.{Option, none, some}
+use Rattle.std.specs.Prelude.{Option, None, Some}
 use native.Mathlib.Omega.{arith}
 use native.Mathlib.Decide.{ℕ_discrete}
 use lib.Dec.{ltb, leb}
@@ -22,7 +22,7 @@ use Rattle.metadata.specs.Work.{standing}
 abbrev pub among : List ℕ → ℕ → List ℕ → Option Description
 among t p r = at p (map (described t) (keep (is_register t) r))
 
-pub among_nil : (t : List ℕ) (p : ℕ) → among t p [] ≡ none
+pub among_nil : (t : List ℕ) (p : ℕ) → among t p [] ≡ None
 unfolding keep at
 among_nil t p = refl
 
@@ -42,16 +42,16 @@ among_none : (t : List ℕ) (p : ℕ) (r : List ℕ) → is_register t p ≡ fal
 unfolding keep
 among_none t p r e = rw e refl
 
-among_past : (t : List ℕ) (p n i : ℕ) → p < i → among t p (heads_from size_of t i n) ≡ none
+among_past : (t : List ℕ) (p n i : ℕ) → p < i → among t p (heads_from size_of t i n) ≡ None
 unfolding heads_from
 among_past t p zero i l = among_nil t p
 among_past t p (suc n) i l = go (ltb i (length t)) (among_past t p n (i + size_of (word t i)) (omega arith))
   where
-    go : (b : Bool) → among t p (heads_from size_of t (i + size_of (word t i)) n) ≡ none → among t p (cond b (i ∷ heads_from size_of t (i + size_of (word t i)) n) []) ≡ none
+    go : (b : Bool) → among t p (heads_from size_of t (i + size_of (word t i)) n) ≡ None → among t p (cond b (i ∷ heads_from size_of t (i + size_of (word t i)) n) []) ≡ None
     go true e = among_other t p i _ (λ q. omega arith) ∙ e
     go false e = among_nil t p
 
-past : (t : List ℕ) (p i : ℕ) (r : List ℕ) → Rest t i r → p < i → among t p r ≡ none
+past : (t : List ℕ) (p i : ℕ) (r : List ℕ) → Rest t i r → p < i → among t p r ≡ None
 past t p i r h l = ap (λ z. among t p z) h.is ∙ among_past t p h.most i l
 
 -- the loop of stands_at
@@ -65,7 +65,7 @@ at_heads t p = refl
 pub seek_all : (t : List ℕ) (p : ℕ) → Seeking t p 0
 seek_all t p = (heads t, rest_all t, at_heads t p)
 
-no_standing : (t : List ℕ) (p : ℕ) → none ≡ standing false t p
+no_standing : (t : List ℕ) (p : ℕ) → None ≡ standing false t p
 unfolding standing
 no_standing t p = refl
 
@@ -89,13 +89,13 @@ module _ (t : List ℕ) (p i : ℕ) (h : Seeking t p i) where
         let n = rest_next t p h.0 (subst (λ z. Rest t z h.0) e h.1) m in
         h.2 ∙ ap (λ z. among t p z) n.here ∙ among_none t p n.left k ∙ past t p _ n.left n.then (omega (arith, size_pos (word t p))) ∙ no_standing t p
 
-among_short : (t : List ℕ) (p n i : ℕ) → length t ≤ p → among t p (heads_from size_of t i n) ≡ none
+among_short : (t : List ℕ) (p n i : ℕ) → length t ≤ p → among t p (heads_from size_of t i n) ≡ None
 unfolding heads_from
 among_short t p zero i l = among_nil t p
 among_short t p (suc n) i l = go (ltb i (length t)) refl (among_short t p n (i + size_of (word t i)) l)
   where
-    go : (b : Bool) → ltb i (length t) ≡ b → among t p (heads_from size_of t (i + size_of (word t i)) n) ≡ none
-        → among t p (cond b (i ∷ heads_from size_of t (i + size_of (word t i)) n) []) ≡ none
+    go : (b : Bool) → ltb i (length t) ≡ b → among t p (heads_from size_of t (i + size_of (word t i)) n) ≡ None
+        → among t p (cond b (i ∷ heads_from size_of t (i + size_of (word t i)) n) []) ≡ None
     go true q e = among_other t p i _ (λ z. omega (arith, ltb-true i (length t) q)) ∙ e
     go false q e = among_nil t p
 
@@ -107,11 +107,11 @@ pub both : (x y : Bool) → (x && y) ≡ true → (x ≡ true) × (y ≡ true)
 both true y e = (refl, e)
 both false y e = absurd (false≢true e)
 
-good_among : (t : List ℕ) (g : ℕ → Bool) (p : ℕ) (d : Description) (r : List ℕ) → first_bad g r ≡ value tt → among t p r ≡ some d → g p ≡ true
+good_among : (t : List ℕ) (g : ℕ → Bool) (p : ℕ) (d : Description) (r : List ℕ) → first_bad g r ≡ value tt → among t p r ≡ Some d → g p ≡ true
 good_among t g p d [] a e = let z : ◌≡◌ {A = ℕ} 0 1 = cc (among_nil t p) in absurd (omega arith)
 good_among t g p d (i ∷ r) a e = go (ℕ_discrete i p) (good_front g i r a) (good_among t g p d r)
   where
-    go : Dec (i ≡ p) → (g i ≡ true) × (first_bad g r ≡ value tt) → (first_bad g r ≡ value tt → among t p r ≡ some d → g p ≡ true) → g p ≡ true
+    go : Dec (i ≡ p) → (g i ≡ true) × (first_bad g r ≡ value tt) → (first_bad g r ≡ value tt → among t p r ≡ Some d → g p ≡ true) → g p ≡ true
     go (yes q) h ih = subst (λ z. g z ≡ true) q h.0
     go (no q) h ih = ih h.1 (sym (among_other t p i r q) ∙ e)
 
@@ -127,11 +127,11 @@ pub good_at : (t : List ℕ) (p : ℕ) → check_of t ≡ value tt → at p (des
 unfolding standing
 good_at t p a e = good_among t (good_group t) p (described t p) (heads t) (check_good t a) (sym (at_heads t p) ∙ e)
 
-register_among : (t : List ℕ) (p : ℕ) (d : Description) (r : List ℕ) → among t p r ≡ some d → is_register t p ≡ true
+register_among : (t : List ℕ) (p : ℕ) (d : Description) (r : List ℕ) → among t p r ≡ Some d → is_register t p ≡ true
 register_among t p d [] e = let z : ◌≡◌ {A = ℕ} 0 1 = cc (among_nil t p) in absurd (omega arith)
 register_among t p d (i ∷ r) e = go (ℕ_discrete i p) (is_register t p) refl (register_among t p d r)
   where
-    go : Dec (i ≡ p) → (b : Bool) → is_register t p ≡ b → (among t p r ≡ some d → is_register t p ≡ true) → is_register t p ≡ true
+    go : Dec (i ≡ p) → (b : Bool) → is_register t p ≡ b → (among t p r ≡ Some d → is_register t p ≡ true) → is_register t p ≡ true
     go (yes q) true k ih = k
     go (yes q) false k ih = ih (sym (among_none t p r k) ∙ ap (λ z. among t p (z ∷ r)) (sym q) ∙ e)
     go (no q) b k ih = ih (sym (among_other t p i r q) ∙ e)

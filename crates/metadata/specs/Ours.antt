@@ -1,7 +1,6 @@
 -- Document 01, "Our descriptions": the table, from `tb_regs.h`. Assumes nothing.
-use Rattle.std.specs.Prelude.{ℕ, ◌+◌, ◌^◌, List, [], ◌∷◌}
+use Rattle.std.specs.Prelude.{ℕ, ◌+◌, ◌^◌, List, [], ◌∷◌, None, Some}
 use Prim.Native.String.{String}
-use Rattle.std.proofs.Math.Option.{none, some}
 use Rattle.util.specs.Text.{bytes_of}
 use Rattle.layout.specs.Description.{Field, Description}
 
@@ -11,11 +10,11 @@ bits_named name s e = record { start = s; end = e; name = bytes_of name; short =
 
 -- a register of any adapter kind and without ids; one under a cap id, of some kinds
 unfoldable pub plain : ℕ → ℕ → ℕ → String → List Field → Description
-plain place space offset name fields = record { place = place; space = space; offset = offset; cap = none; vs = none; types = none; name = bytes_of name; fields = fields }
+plain place space offset name fields = record { place = place; space = space; offset = offset; cap = None; vs = None; types = None; name = bytes_of name; fields = fields }
 
 unfoldable pub capped : ℕ → ℕ → ℕ → ℕ → String → List Field → Description
 capped place cap offset types name fields =
-    record { place = place; space = 1; offset = offset; cap = some cap; vs = none; types = some types; name = bytes_of name; fields = fields }
+    record { place = place; space = 1; offset = offset; cap = Some cap; vs = None; types = Some types; name = bytes_of name; fields = fields }
 
 -- the kinds' numbers in the order of `Type`
 abbrev pub lane : ℕ

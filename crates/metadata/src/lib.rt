@@ -3,31 +3,15 @@
 
 ghost use Rattle.std.specs.Prelude.{◌≡◌};
 ghost use Rattle.layout.specs.Description.{descriptions_of};
-ghost use Rattle.metadata.specs.Calls.{describe_answer, described_outcome, at, name_answer, field_in, field_answer, field_outcome};
+ghost use Rattle.metadata.specs.Calls.{describe_answer, at, name_answer, field_in, field_answer};
 ghost use Rattle.refusal.specs.Outcome.{value};
 ghost use Rattle.description.specs.Rules.{read_descriptions};
 ghost use Rattle.metadata.specs.Ours.{ours};
 ghost use Rattle.metadata.specs.Work.{standing};
+ghost use Rattle.refusal.specs.Refusal.{outcome};
 
-use description::Checked;
-use fields::FieldFound;
-use naming::{Found, Sought};
-
-// The place of the group that names a register, or nameless, or refusal 3.
-#[derive(Clone, Copy)]
-pub enum Described {
-    Group(usize),
-    Nameless,
-    Refused(usize),
-}
-
-// A field's value, or refusal 3, or refusal 6.
-#[derive(Clone, Copy)]
-pub enum FieldValue {
-    Value(u32),
-    Refused(usize),
-    NoField,
-}
+use naming::Sought;
+use refusal::Refusal;
 
 // Whether a register group has its head at a place.
 fn stands_at(t: &[u32], place: usize) -> bool
@@ -50,23 +34,18 @@ fn stands_at(t: &[u32], place: usize) -> bool
 }
 
 // The group that names a register, nameless, or refused (3).
-pub fn describe(descriptions: &[u32], q: Sought) -> Described
-    ensures { described_outcome result ≡ describe_answer descriptions.now q }
+pub fn describe(descriptions: &[u32], q: Sought) -> Result<Option<usize>, Refusal>
+    ensures { outcome result ≡ describe_answer descriptions.now q }
 {
-    match description::check(descriptions) {
-        Checked::Refused(p) => Described::Refused(p),
-        Checked::WellFormed => match naming::find_group(descriptions, q) {
-            Found::At(p) => Described::Group(p),
-            Found::Nowhere => Described::Nameless,
-        },
-    }
+    description::check(descriptions)?; // 3 alone
+    Ok(naming::find_group(descriptions, q))
 }
 
 // The words of the name of the register group at a place, as a part of the words lent; empty where none stands there or the words are refused.
 pub fn name(descriptions: &[u32], place: usize) -> &[u32]
     ensures { result.now ≡ name_answer descriptions.now place }
 {
-    let Checked::WellFormed = description::check(descriptions) else {
+    let Ok(()) = description::check(descriptions) else {
         return &descriptions[..0];
     };
     if !stands_at(descriptions, place) {
@@ -79,26 +58,24 @@ pub fn name(descriptions: &[u32], place: usize) -> &[u32]
 }
 
 // A field of the register group at a place: bits start to end of the value, or 6.
-fn field_at(descriptions: &[u32], place: usize, value: u32, name: &[u8]) -> FieldValue
-    ensures { field_outcome result ≡ field_in value name.now (at place (descriptions_of descriptions.now)) }
+fn field_at(descriptions: &[u32], place: usize, value: u32, name: &[u8]) -> Result<u32, Refusal>
+    ensures { outcome result ≡ field_in value name.now (at place (descriptions_of descriptions.now)) }
 {
     if !stands_at(descriptions, place) {
-        return FieldValue::NoField;
+        return Err(Refusal::NoField);
     }
-    let FieldFound::Bits { start, end } = fields::find_field(descriptions, place, name) else {
-        return FieldValue::NoField;
+    let Some(field) = fields::find_field(descriptions, place, name) else {
+        return Err(Refusal::NoField);
     };
-    FieldValue::Value(util::bits(value, start, end))
+    Ok(util::bits(value, field.start, field.end))
 }
 
 // A field by name, or by short name, of the register group at a place; refused (3), or 6 alone where no register group stands there or it lacks the field.
-pub fn field(descriptions: &[u32], place: usize, value: u32, name: &[u8]) -> FieldValue
-    ensures { field_outcome result ≡ field_answer descriptions.now place value name.now }
+pub fn field(descriptions: &[u32], place: usize, value: u32, name: &[u8]) -> Result<u32, Refusal>
+    ensures { outcome result ≡ field_answer descriptions.now place value name.now }
 {
-    match description::check(descriptions) {
-        Checked::Refused(p) => FieldValue::Refused(p),
-        Checked::WellFormed => field_at(descriptions, place, value, name),
-    }
+    description::check(descriptions)?; // 3 before 6
+    field_at(descriptions, place, value, name)
 }
 
 // Our own descriptions, from tb_regs.h.

@@ -4,7 +4,7 @@ use native.Mathlib.Omega.{arith}
 use mathlib.Core.Path.{◌≡◌, refl, sym, ap, ◌∙◌, subst}
 use mathlib.Core.Bool.{Bool, true, false, cond, ◌&&◌, false≢true}
 use mathlib.Core.List.{List, [], ◌∷◌, map}
-use mathlib.Core.Option.{none, some}
+use Rattle.std.specs.Prelude.{None, Some}
 use lib.Dec.{eqb}
 use lib.ListN.{length}
 use borrow.Author.Tests.{eqb-true}
@@ -39,10 +39,10 @@ module _ (t name : List ℕ) where
   Others [] = 0 ≤ 0
   Others (d ∷ ds) = (alike d.name name ≡ false) × Others ds
 
-  not_named : (ds : List Description) → Others ds → having_name name (only ds) ≡ none
+  not_named : (ds : List Description) → Others ds → having_name name (only ds) ≡ None
   unfolding Others having_name only
   not_named [] h = refl
-  not_named (d ∷ []) h = ap (λ b. cond b (some d) none) h.0
+  not_named (d ∷ []) h = ap (λ b. cond b (Some d) None) h.0
   not_named (d ∷ (x ∷ ds)) h = refl
 
   module _ (l m : ℕ) (q : Sought) (out : l ≤ q.offset → q.offset ≤ m → ⊥) where
@@ -69,7 +69,7 @@ module _ (t name : List ℕ) where
         go true k ih = step k (fits q (described t p)) refl ih
         go false k ih = ih
 
-    outside : Bounds l m (heads t) → having_name name (naming q (descriptions_of t)) ≡ none
+    outside : Bounds l m (heads t) → having_name name (naming q (descriptions_of t)) ≡ None
     unfolding naming descriptions_of registers
     outside h = not_named _ (others_left (heads t) h)
 

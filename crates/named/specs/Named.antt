@@ -1,23 +1,15 @@
 -- Registers of a survey with the descriptions that name them; fields and flags that are wanted of them. Assumes nothing.
-use Rattle.std.specs.Prelude.{ℕ, ◌+◌, ◌≤◌, Bool, true, false, cond, List, [], ◌∷◌}
-use Rattle.std.proofs.Math.Option.{Option, none, some}
+use Rattle.std.specs.Prelude.{ℕ, ◌+◌, ◌≤◌, Bool, true, false, cond, List, [], ◌∷◌, Option, None, Some, Err, Ok, Result}
 use Rattle.refusal.specs.Outcome.{Outcome, refused, value}
 use Rattle.refusal.specs.Refusal.{at}
 use Rattle.refusal.specs.declared.Site.{Site}
 use Rattle.layout.specs.Description.{Description, described}
 use Rattle.naming.specs.Naming.{naming}
-use Rattle.naming.specs.declared.Found.{Found}
-use Rattle.naming.specs.declared.Found.TheVariants as place
 use Rattle.fields.specs.Names.{alike, find_field}
 use Rattle.metadata.specs.Calls.{value_in, flag_in}
 use Rattle.register.specs.declared.Register.{Register}
 use Rattle.listing.specs.After.{register_at}
-use Rattle.named.specs.declared.NamedFound.{NamedFound}
-use Rattle.named.specs.declared.NamedFound.TheVariants as found
-use Rattle.named.specs.declared.FieldRead.{FieldRead}
-use Rattle.named.specs.declared.FieldRead.TheVariants as field
-use Rattle.named.specs.declared.FlagRead.{FlagRead}
-use Rattle.named.specs.declared.FlagRead.TheVariants as flag
+use Rattle.named.specs.declared.NamedAt.{NamedAt}
 
 -- router, adapter and path space, as description words number them
 abbrev pub router_space : ℕ
@@ -39,21 +31,21 @@ pub record Named : Type 0 where
   pub description : Description
 
 unfoldable pub or_else : {A : Type 0} → Option A → Option A → Option A
-or_else none b = b
-or_else (some a) b = some a
+or_else None b = b
+or_else (Some a) b = Some a
 
 -- a description, where it has the name
 unfoldable pub having_name : List ℕ → Option Description → Option Description
-having_name name none = none
-having_name name (some d) = cond (alike d.name name) (some d) none
+having_name name None = None
+having_name name (Some d) = cond (alike d.name name) (Some d) None
 
 unfoldable pub with_register : Register → Option Description → Option Named
-with_register r none = none
-with_register r (some d) = some (record { register = r; description = d })
+with_register r None = None
+with_register r (Some d) = Some (record { register = r; description = d })
 
 -- `register_by_name`: the first register that has the name
 unfoldable pub by_name : List Description → ℕ → ℕ → List ℕ → List Register → Option Named
-by_name ds space k name [] = none
+by_name ds space k name [] = None
 by_name ds space k name (r ∷ rs) = or_else (with_register r (having_name name (named ds space k r))) (by_name ds space k name rs)
 
 -- a refusal that comes alone, with device place and adapter number
@@ -70,26 +62,19 @@ unfoldable pub wanted_flag : Site → Register → Option Description → List �
 wanted_flag s r d name = sited s (flag_in r.value name d)
 
 -- what `by_name` answers: the register at a place of the survey, and the description at a place of the descriptions; which place, of several that read the same, is free
-unfoldable pub named_at : List ℕ → List ℕ → NamedFound → Option Named
-named_at t s (found.At i g) = some (record { register = register_at s i; description = described t g })
-named_at t s found.Nowhere = none
+unfoldable pub named_at : List ℕ → List ℕ → Option NamedAt → Option Named
+named_at t s (Some n) = Some (record { register = register_at s n.register; description = described t n.group })
+named_at t s None = None
+
+abbrev pub named_in : ℕ → ℕ → Option NamedAt
+named_in i g = Some (record { register = i; group = g })
 
 -- the register's four words are there
-unfoldable pub Within : ℕ → NamedFound → Type 0
-Within n (found.At i g) = i + 4 ≤ n
-Within n found.Nowhere = 0 ≤ n
+unfoldable pub Within : ℕ → Option NamedAt → Type 0
+Within n (Some f) = f.register + 4 ≤ n
+Within n None = 0 ≤ n
 
 -- what a group found by `naming` stands for
-unfoldable pub found_named : List ℕ → Found → Option Description
-found_named t (place.At g) = some (described t g)
-found_named t place.Nowhere = none
-
--- what `field_value` and `flag_value` answer: 6 alone where it is missing
-unfoldable pub field_read : FieldRead → Outcome ℕ
-field_read (field.Value v) = value v
-field_read field.Missing = refused 6 []
-
-unfoldable pub flag_read : FlagRead → Outcome Bool
-flag_read flag.Set = value true
-flag_read flag.Clear = value false
-flag_read flag.Missing = refused 6 []
+unfoldable pub found_named : List ℕ → Option ℕ → Option Description
+found_named t (Some g) = Some (described t g)
+found_named t None = None

@@ -1,6 +1,5 @@
 -- For contracts of private functions: which relative offsets a name can have. Assumes nothing.
-use Rattle.std.specs.Prelude.{ℕ, ◌≤◌, ◌<◌, ◌≡◌, true, List}
-use Rattle.std.proofs.Math.Option.{none}
+use Rattle.std.specs.Prelude.{ℕ, ◌≤◌, ◌<◌, ◌≡◌, true, List, None}
 use Rattle.layout.specs.Layout.{word, offset}
 use Rattle.layout.specs.Description.{descriptions_of}
 use Rattle.naming.specs.Naming.{naming}
@@ -11,8 +10,8 @@ use Rattle.named.specs.declared.Offsets.{Offsets}
 
 -- a register with another offset does not have the name
 pub record Spans (t name : List ℕ) (o : Offsets) : Type 0 where
-  pub below : (q : Sought) → q.offset < o.least → having_name name (naming q (descriptions_of t)) ≡ none
-  pub above : (q : Sought) → o.most < q.offset → having_name name (naming q (descriptions_of t)) ≡ none
+  pub below : (q : Sought) → q.offset < o.least → having_name name (naming q (descriptions_of t)) ≡ None
+  pub above : (q : Sought) → o.most < q.offset → having_name name (naming q (descriptions_of t)) ≡ None
 
 -- no narrower, and with an offset in it
 pub record Widened (o : Offsets) (at : ℕ) (r : Offsets) : Type 0 where

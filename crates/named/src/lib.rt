@@ -2,39 +2,24 @@
 #![tactic(auto)]
 
 ghost use Rattle.std.specs.Prelude.{◌≡◌, length};
-ghost use Rattle.std.proofs.Math.Option.{some};
 ghost use Rattle.layout.specs.Layout.{bits, low};
 ghost use Rattle.layout.specs.Description.{described, descriptions_of};
 ghost use Rattle.naming.specs.Naming.{naming};
 ghost use Rattle.fields.specs.Names.{find_field};
 ghost use Rattle.metadata.specs.Calls.{value_in, flag_in};
 ghost use Rattle.listing.specs.After.{after};
-ghost use Rattle.named.specs.Named.{having_name, found_named, by_name, named_at, field_read, flag_read, Within};
+ghost use Rattle.named.specs.Named.{having_name, found_named, by_name, named_at, Within};
+ghost use Rattle.refusal.specs.Refusal.{field_read};
 ghost use Rattle.named.specs.Work.{Spans, Widened, Counted};
 
-use fields::FieldFound;
-use naming::{Found, Sought};
+use naming::Sought;
+use refusal::FieldError;
 
 // A register by the place of its group in the survey, and its description by the place of its group in the descriptions.
 #[derive(Clone, Copy)]
-pub enum NamedFound {
-    At { register: usize, group: usize },
-    Nowhere,
-}
-
-// A field's value, or it is missing (6).
-#[derive(Clone, Copy)]
-pub enum FieldRead {
-    Value(u32),
-    Missing,
-}
-
-// A flag, or it is missing or isn't one bit (6).
-#[derive(Clone, Copy)]
-pub enum FlagRead {
-    Set,
-    Clear,
-    Missing,
+pub struct NamedAt {
+    pub register: usize,
+    pub group: usize,
 }
 
 // The least and the largest relative offset of the groups that have a name; least above largest where none has it.
@@ -104,7 +89,7 @@ fn name_group(
     vs: u32,
     name: &[u8],
     o: Offsets,
-) -> Found
+) -> Option<usize>
     requires { Spans descriptions.now name.now o }
     ensures { found_named descriptions.now result ≡ having_name name.now (naming (record { space = space; kind = kind; offset = bits ids 16 31; cap = low ids 15; vs = vs }) (descriptions_of descriptions.now)) }
 {
@@ -116,18 +101,18 @@ fn name_group(
         vs,
     };
     if q.offset < o.least {
-        return Found::Nowhere;
+        return None;
     }
     if o.most < q.offset {
-        return Found::Nowhere;
+        return None;
     }
-    let Found::At(group) = naming::find_group(descriptions, q) else {
-        return Found::Nowhere;
+    let Some(group) = naming::find_group(descriptions, q) else {
+        return None;
     };
     if !fields::name_is(descriptions, group, name) {
-        return Found::Nowhere;
+        return None;
     }
-    Found::At(group)
+    Some(group)
 }
 
 // The first register of adapter space from a place on, before the next head, that has the name.
@@ -138,7 +123,7 @@ pub fn by_name(
     space: u32,
     kind: u32,
     name: &[u8],
-) -> NamedFound
+) -> Option<NamedAt>
     ensures answer { named_at descriptions.now survey.now result ≡ by_name (descriptions_of descriptions.now) space kind name.now (after survey.now from).registers }
     ensures within { Within (length survey.now) result }
 {
@@ -148,33 +133,40 @@ pub fn by_name(
         let ids = layout::word_at(survey, i + 1);
         let vs = layout::word_at(survey, i + 2);
         let found = name_group(descriptions, space, kind, ids, vs, name, o);
-        if let Found::At(group) = found {
-            return NamedFound::At { register: i, group };
+        if let Some(group) = found {
+            return Some(NamedAt { register: i, group });
         }
         i = listing::next_register(survey, i + 4, false);
     }
-    NamedFound::Nowhere
+    None
 }
 
 // A field's value, of the register group at a place of the descriptions.
-pub fn field_value(descriptions: &[u32], group: usize, value: u32, name: &[u8]) -> FieldRead
+pub fn field_value(
+    descriptions: &[u32],
+    group: usize,
+    value: u32,
+    name: &[u8],
+) -> Result<u32, FieldError>
     ensures { field_read result ≡ value_in value (find_field name.now (described descriptions.now group).fields) }
 {
-    let FieldFound::Bits { start, end } = fields::find_field(descriptions, group, name) else {
-        return FieldRead::Missing;
+    let Some(field) = fields::find_field(descriptions, group, name) else {
+        return Err(FieldError::NoField);
     };
-    FieldRead::Value(util::bits(value, start, end))
+    Ok(util::bits(value, field.start, field.end))
 }
 
 // Whether a flag is set, of the register group at a place of the descriptions.
-pub fn flag_value(descriptions: &[u32], group: usize, value: u32, name: &[u8]) -> FlagRead
-    ensures { flag_read result ≡ flag_in value name.now (some (described descriptions.now group)) }
+pub fn flag_value(
+    descriptions: &[u32],
+    group: usize,
+    value: u32,
+    name: &[u8],
+) -> Result<bool, FieldError>
+    ensures { field_read result ≡ flag_in value name.now (Some (described descriptions.now group)) }
 {
-    let FieldFound::Bits { start, end } = fields::find_flag(descriptions, group, name) else {
-        return FlagRead::Missing;
+    let Some(flag) = fields::find_flag(descriptions, group, name) else {
+        return Err(FieldError::NoField);
     };
-    if util::bits(value, start, end) == 0 {
-        return FlagRead::Clear;
-    }
-    FlagRead::Set
+    Ok(util::bits(value, flag.start, flag.end) != 0)
 }

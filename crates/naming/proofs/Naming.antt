@@ -1,9 +1,9 @@
 -- Laws of naming: the description that names a register is the only group that is left. Assumes nothing.
+use Rattle.std.specs.Prelude.{None, Some, Option}
 use Prim.Native.Nat.{ℕ, ◌+◌, ◌/◌, ◌%◌, ◌≤◌, ◌<◌}
 use mathlib.Core.Path.{◌≡◌, refl, sym, ap, ◌∙◌}
 use mathlib.Core.List.{List, [], ◌∷◌, map}
 use mathlib.Core.Bool.{Bool, true, false, cond, ◌&&◌}
-use mathlib.Core.Option.{Option}
 use native.Mathlib.Omega.{arith}
 use lib.Dec.{ltb, eqb}
 use lib.ListN.{length}
@@ -11,10 +11,9 @@ use borrow.Author.Tests.{lt-ltb, le-ltb, eq-eqb, ne_eqb}
 use Rattle.layout.specs.Layout.{word, has_cap, has_vs, cap_id, vs_id, listed, kinds, size_of, heads, keep, is_register, registers}
 use Rattle.layout.specs.Description.{had, described, descriptions_of}
 use Rattle.layout.proofs.Laws.{Rest, rest_all, rest_next, rest_end}
-use Rattle.naming.specs.Naming.{is, kind_fits, cap_fits, vs_fits, fits, only, naming, place_of, found_place}
+use Rattle.naming.specs.Naming.{is, kind_fits, cap_fits, vs_fits, fits, only, naming, place_of}
 use Rattle.naming.specs.Work.{candidate}
 use Rattle.naming.specs.declared.Sought.{Sought}
-use Rattle.naming.specs.declared.Found.TheVariants.{At, Nowhere}
 
 -- a test behind a map, and two tests
 keep_map : {A B : Type 0} (f : B → Bool) (g : A → B) (xs : List A) → keep f (map g xs) ≡ map g (keep (λ x. f (g x)) xs)
@@ -64,16 +63,16 @@ keep_none : (f : ℕ → Bool) → keep f [] ≡ []
 unfolding keep
 keep_none f = refl
 
-only_one : (p : ℕ) → only (p ∷ []) ≡ found_place (At p)
-unfolding only found_place
+only_one : (p : ℕ) → only (p ∷ []) ≡ (Some p)
+unfolding only
 only_one p = refl
 
-only_none : only [] ≡ found_place Nowhere
-unfolding only found_place
+only_none : only {A = ℕ} [] ≡ None
+unfolding only
 only_none = refl
 
-only_two : (p q : ℕ) (ps : List ℕ) → only (p ∷ (q ∷ ps)) ≡ found_place Nowhere
-unfolding only found_place
+only_two : (p q : ℕ) (ps : List ℕ) → only (p ∷ (q ∷ ps)) ≡ None
+unfolding only
 only_two p q ps = refl
 
 -- the groups that are left: the one found so far (below n), and those among the places to come
@@ -103,7 +102,7 @@ module _ (t : List ℕ) (q : Sought) (found i : ℕ) (h : Finding t q found i) w
       let k = left_at _ _ n.here (keep_in (candidate t q) i _ e) in
       rw (z, y) (n.left, n.then, k ∙ after_none (length t) found _ m ∙ sym (after_one (length t) i _ l))
 
-  pub find_second : i < length t → candidate t q i ≡ true → found < length t → found_place Nowhere ≡ place_of (naming q (descriptions_of t))
+  pub find_second : i < length t → candidate t q i ≡ true → found < length t → None ≡ place_of (naming q (descriptions_of t))
   find_second l e m =
       let n = rest_next t i h.0 h.1 l in
       let k = left_at _ _ n.here (keep_in (candidate t q) i _ e) ∙ after_one (length t) found _ m in
@@ -114,12 +113,12 @@ module _ (t : List ℕ) (q : Sought) (found i : ℕ) (h : Finding t q found i) w
       let n = rest_next t i h.0 h.1 l in
       rw (z, y) (n.left, n.then, left_at _ _ n.here (keep_out (candidate t q) i _ e))
 
-  pub find_one : length t ≤ i → found < length t → found_place (At found) ≡ place_of (naming q (descriptions_of t))
+  pub find_one : length t ≤ i → found < length t → (Some found) ≡ place_of (naming q (descriptions_of t))
   find_one l m =
       let k = left_at _ _ (rest_end t i h.0 h.1 l) (keep_none (candidate t q)) ∙ after_one (length t) found _ m in
       sym (naming_heads t q ∙ ap only k ∙ only_one found)
 
-  pub find_none : length t ≤ i → length t ≤ found → found_place Nowhere ≡ place_of (naming q (descriptions_of t))
+  pub find_none : length t ≤ i → length t ≤ found → None ≡ place_of (naming q (descriptions_of t))
   find_none l m =
       let k = left_at _ _ (rest_end t i h.0 h.1 l) (keep_none (candidate t q)) ∙ after_none (length t) found _ m in
       sym (naming_heads t q ∙ ap only k ∙ only_none)

@@ -1,25 +1,22 @@
 -- Document 01, module 4: which description names a register, over one set of descriptions. Assumes nothing.
-use Rattle.std.specs.Prelude.{ℕ, ◌/◌, ◌%◌, ◌^◌, Bool, true, false, cond, ◌&&◌, ◌||◌, List, [], ◌∷◌, ltb, eqb}
-use Rattle.std.proofs.Math.Option.{Option, none, some}
+use Rattle.std.specs.Prelude.{ℕ, ◌/◌, ◌%◌, ◌^◌, Bool, true, false, cond, ◌&&◌, ◌||◌, List, [], ◌∷◌, ltb, eqb, Option, None, Some}
 use Rattle.layout.specs.Layout.{keep}
 use Rattle.layout.specs.Description.{Description}
 use Rattle.naming.specs.declared.Sought.{Sought}
-use Rattle.naming.specs.declared.Found.{Found}
-use Rattle.naming.specs.declared.Found.TheVariants.{At, Nowhere}
 
 -- an id that is had and equal
 unfoldable pub is : ℕ → Option ℕ → Bool
-is v none = false
-is v (some id) = eqb id v
+is v None = false
+is v (Some id) = eqb id v
 
 unfoldable pub is_none : Option ℕ → Bool
-is_none none = true
-is_none (some id) = false
+is_none None = true
+is_none (Some id) = false
 
 -- in adapter and path space: no type list, or one naming the adapter's kind k
 unfoldable pub kind_fits : ℕ → ℕ → Option ℕ → Bool
-kind_fits space k none = true
-kind_fits space k (some types) = eqb space 0 || (ltb k 12 && eqb (types / 2 ^ k % 2) 1)
+kind_fits space k None = true
+kind_fits space k (Some types) = eqb space 0 || (ltb k 12 && eqb (types / 2 ^ k % 2) 1)
 
 -- cap id not 0: the candidate's must equal it; cap id 0: the candidate has neither id
 unfoldable pub cap_fits : ℕ → Option ℕ → Option ℕ → Bool
@@ -39,9 +36,9 @@ fits q d =
 
 -- exactly one left; none or several leave the register nameless
 unfoldable pub only : {A : Type 0} → List A → Option A
-only [] = none
-only (x ∷ []) = some x
-only (x ∷ (y ∷ xs)) = none
+only [] = None
+only (x ∷ []) = Some x
+only (x ∷ (y ∷ xs)) = None
 
 unfoldable pub naming : Sought → List Description → Option Description
 naming q ds = only (keep (fits q) ds)
@@ -52,9 +49,5 @@ router_naming offset cap vs ds = naming (record { space = 0; kind = 0; offset = 
 
 -- where the group of a description stands
 unfoldable pub place_of : Option Description → Option ℕ
-place_of none = none
-place_of (some d) = some d.place
-
-unfoldable pub found_place : Found → Option ℕ
-found_place (At p) = some p
-found_place Nowhere = none
+place_of None = None
+place_of (Some d) = Some d.place

@@ -5,7 +5,7 @@ ghost use Rattle.std.specs.Prelude.{◌≡◌, ◌<◌, length};
 ghost use Rattle.layout.specs.Layout.{has_cap, has_vs, cap_id, vs_id, listed, kinds};
 ghost use Rattle.layout.specs.Description.{had, descriptions_of};
 ghost use Rattle.naming.specs.Work.{candidate};
-ghost use Rattle.naming.specs.Naming.{kind_fits, cap_fits, vs_fits, naming, router_naming, place_of, found_place};
+ghost use Rattle.naming.specs.Naming.{kind_fits, cap_fits, vs_fits, naming, router_naming, place_of};
 
 // A register as it is looked up: its space, the adapter's kind (as usb4::type_number gives it), its relative offset and ids.
 #[derive(Clone, Copy)]
@@ -15,13 +15,6 @@ pub struct Sought {
     pub offset: u32,
     pub cap: u32,
     pub vs: u32,
-}
-
-// The place of the only group that is left.
-#[derive(Clone, Copy)]
-pub enum Found {
-    At(usize),
-    Nowhere,
 }
 
 // In adapter and path space: no type list, or one naming the kind.
@@ -98,30 +91,30 @@ fn is_candidate(t: &[u32], i: usize, q: Sought) -> bool
 }
 
 // The group that names a register: the only one that is left. One pass; the words need not be well formed.
-pub fn find_group(descriptions: &[u32], q: Sought) -> Found
-    ensures { found_place result ≡ place_of (naming q (descriptions_of descriptions.now)) }
+pub fn find_group(descriptions: &[u32], q: Sought) -> Option<usize>
+    ensures { result ≡ place_of (naming q (descriptions_of descriptions.now)) }
 {
     let mut found = descriptions.len();
     let mut i: usize = 0;
     while i < descriptions.len() {
         if is_candidate(descriptions, i, q) {
             if found < descriptions.len() {
-                return Found::Nowhere;
+                return None;
             }
             found = i;
         }
         i += layout::group_size(layout::word_at(descriptions, i));
     }
     if found < descriptions.len() {
-        Found::At(found)
+        Some(found)
     } else {
-        Found::Nowhere
+        None
     }
 }
 
 // The same for a register of a router.
-pub fn find_router_group(descriptions: &[u32], offset: u32, cap: u32, vs: u32) -> Found
-    ensures { found_place result ≡ place_of (router_naming offset cap vs (descriptions_of descriptions.now)) }
+pub fn find_router_group(descriptions: &[u32], offset: u32, cap: u32, vs: u32) -> Option<usize>
+    ensures { result ≡ place_of (router_naming offset cap vs (descriptions_of descriptions.now)) }
 {
     find_group(
         descriptions,

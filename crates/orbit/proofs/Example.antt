@@ -1,9 +1,10 @@
 -- Walks over a small table, as the definitions compute them.
+use Rattle.std.specs.Option.{option_to_list}
 use Prim.Native.Nat.{ℕ}
 use mathlib.Core.Path.{◌≡◌, refl, sym, ◌∙◌}
 use mathlib.Core.Bool.{Bool, true, false, cond, false≢true}
-use mathlib.Core.List.{List, [], ◌∷◌, ◌++◌, Option-to_list}
-use mathlib.Core.Option.{Option, none, some}
+use mathlib.Core.List.{List, [], ◌∷◌, ◌++◌}
+use Rattle.std.specs.Prelude.{Option, None, Some}
 use native.Mathlib.Omega.{arith}
 use lib.ListN.{length}
 use lib.Dec.{eqb}
@@ -26,28 +27,28 @@ abbrev at : ℕ → Entry → Bool
 at x e = eqb e.from x
 
 abbrev first : ℕ → List Entry → Option Entry
-first x [] = none
-first x (e ∷ es) = cond (at x e) (some e) (first x es)
+first x [] = None
+first x (e ∷ es) = cond (at x e) (Some e) (first x es)
 
 abbrev walk : Walk ℕ Entry ℕ
 walk = record { hop = λ x. first x table; next = λ x e. cond (eqb e.to 9) (ends 9) (on e.to) }
 
 -- three hops to the end
 three : (walk_n walk 1 2 ≡ stand 3) × (walk_n walk 1 3 ≡ ended 9) × (walk_n walk 1 7 ≡ ended 9) × (hops_n walk 1 7 ≡ entry 1 2 ∷ entry 2 3 ∷ entry 3 9 ∷ [])
-unfolding walk_n hops_n hop_at onward made turned arrive found Option-to_list
+unfolding walk_n hops_n hop_at onward made turned arrive found
 three = (refl, refl, refl, refl)
 
 -- one hop to a state with no entry; no hop at all
 one_and_none : (walk_n walk 7 1 ≡ stopped) × (hops_n walk 7 4 ≡ entry 7 8 ∷ []) × (walk_n walk 4 0 ≡ stopped) × (hops_n walk 4 3 ≡ [])
-unfolding walk_n hops_n hop_at onward made turned arrive found Option-to_list
+unfolding walk_n hops_n hop_at onward made turned arrive found
 one_and_none = (refl, refl, refl, refl)
 
-first_has : (x : ℕ) (h : Entry) (es : List Entry) → first x es ≡ some h → has (at x) es ≡ true
+first_has : (x : ℕ) (h : Entry) (es : List Entry) → first x es ≡ Some h → has (at x) es ≡ true
 unfolding has
 first_has x h [] q = absurd (let z : ◌≡◌ {A = ℕ} 0 1 = cc in omega arith)
 first_has x h (e ∷ es) q = go (at x e) (λ p. first_has x h es p) q
   where
-    go : (b : Bool) → (first x es ≡ some h → has (at x) es ≡ true) → cond b (some e) (first x es) ≡ some h → cond b true (has (at x) es) ≡ true
+    go : (b : Bool) → (first x es ≡ Some h → has (at x) es ≡ true) → cond b (Some e) (first x es) ≡ Some h → cond b true (has (at x) es) ≡ true
     go true ih p = refl
     go false ih p = ih p
 

@@ -1,10 +1,11 @@
 -- Laws of walks. With a rank below N that tells the states with a hop to make apart, a walk ends within N hops or never.
+use Rattle.std.specs.Option.{option_to_list}
 use Prim.Native.Nat.{ℕ, zero, suc, ◌+◌, ◌≤◌, ◌<◌}
 use mathlib.Core.Path.{◌≡◌, refl, sym, ap, ◌∙◌, subst}
 use mathlib.Core.Logic.{◌⊎◌, inl, inr, ⊎_elim, ◌↔◌}
 use mathlib.Core.Bool.{Bool, true, false, cond, true≢false, false≢true}
-use mathlib.Core.List.{List, [], ◌∷◌, ◌++◌, append-nil, Option-to_list}
-use mathlib.Core.Option.{Option, none, some}
+use mathlib.Core.List.{List, [], ◌∷◌, ◌++◌, append-nil}
+use Rattle.std.specs.Prelude.{Option, None, Some}
 use native.Mathlib.Omega.{arith}
 use native.Mathlib.Decide.{ℕ_discrete, dec_lt, dec_le}
 use native.Mathlib.Numerals.{add-one}
@@ -86,7 +87,7 @@ module _ {S H E : Type 0} (W : Walk S H E) where
 
   -- where a walk stands there is a hop to make
   abbrev Ready : Spot S E → Type 0
-  Ready (stand x) = (h : H) × (W.hop x ≡ some h)
+  Ready (stand x) = (h : H) × (W.hop x ≡ Some h)
   Ready (ended e) = Unit {0}
   Ready stopped = Unit {0}
 
@@ -95,8 +96,8 @@ module _ {S H E : Type 0} (W : Walk S H E) where
   ready_arrive x = go (W.hop x) refl
     where
       go : (o : Option H) → W.hop x ≡ o → Ready (found x o)
-      go none e = tt
-      go (some h) e = (h, e)
+      go None e = tt
+      go (Some h) e = (h, e)
 
   ready_turned : (t : Turn S E) → Ready (turned W t)
   unfolding turned
@@ -105,8 +106,8 @@ module _ {S H E : Type 0} (W : Walk S H E) where
 
   ready_made : (x : S) (o : Option H) → Ready (made W x o)
   unfolding made
-  ready_made x none = tt
-  ready_made x (some h) = ready_turned (W.next x h)
+  ready_made x None = tt
+  ready_made x (Some h) = ready_turned (W.next x h)
 
   ready_onward : (p : Spot S E) → Ready (onward W p)
   unfolding onward
@@ -116,7 +117,7 @@ module _ {S H E : Type 0} (W : Walk S H E) where
 
   -- the state and the hop at a spot
   abbrev pub Standing : Spot S E → Type 0
-  Standing p = (x : S) × (h : H) × (p ≡ stand x) × (W.hop x ≡ some h)
+  Standing p = (x : S) × (h : H) × (p ≡ stand x) × (W.hop x ≡ Some h)
 
   standing : (p : Spot S E) → Ready p → going p ≡ true → Standing p
   unfolding going
@@ -212,8 +213,8 @@ module _ {S H E : Type 0} (W : Walk S H E) (s : S) where
   -- ---- the hops
 
   -- a hop to make is the next of the hops
-  pub hops_more : (n : ℕ) (x : S) (h : H) → walk_n W s n ≡ stand x → W.hop x ≡ some h → hops_n W s (suc n) ≡ hops_n W s n ++ (h ∷ [])
-  unfolding hops_n hop_at Option-to_list
+  pub hops_more : (n : ℕ) (x : S) (h : H) → walk_n W s n ≡ stand x → W.hop x ≡ Some h → hops_n W s (suc n) ≡ hops_n W s n ++ (h ∷ [])
+  unfolding hops_n hop_at
   hops_more n x h e f = rw (e, f)
 
   pub length_hops : (n : ℕ) → ((k : ℕ) → k < n → going (walk_n W s k) ≡ true) → length (hops_n W s n) ≡ n
@@ -228,7 +229,7 @@ module _ {S H E : Type 0} (W : Walk S H E) (s : S) where
   ends_length {n} e = length_hops n e.hops
 
   -- hop i is the one made after i hops
-  pub hop_at_lem : (n i : ℕ) (x : S) (h d : H) → i < n → ((k : ℕ) → k < n → going (walk_n W s k) ≡ true) → walk_n W s i ≡ stand x → W.hop x ≡ some h → get_or (hops_n W s n) i d ≡ h
+  pub hop_at_lem : (n i : ℕ) (x : S) (h d : H) → i < n → ((k : ℕ) → k < n → going (walk_n W s k) ≡ true) → walk_n W s i ≡ stand x → W.hop x ≡ Some h → get_or (hops_n W s n) i d ≡ h
   hop_at_lem zero i x h d l g e f = absurd (omega arith)
   hop_at_lem (suc n) i x h d l g e f = go (hop_to_make n (g n (omega arith))) (length_hops n before) (λ m. hop_at_lem n i x h d m before e f) (dec_lt i n)
     where
@@ -242,7 +243,7 @@ module _ {S H E : Type 0} (W : Walk S H E) (s : S) where
           rw (hops_more n x h (ap (walk_n W s) q ∙ e) f) (get_or_at (hops_n W s n) h [] d i (w ∙ q))
 
   -- where a hop tells its state, no two hops of a walk that ends tell the same
-  pub keys_apart : (key : H → S) → ((x : S) (h : H) → W.hop x ≡ some h → key h ≡ x) → (d : H) {n : ℕ} → EndsAfter W s n
+  pub keys_apart : (key : H → S) → ((x : S) (h : H) → W.hop x ≡ Some h → key h ≡ x) → (d : H) {n : ℕ} → EndsAfter W s n
       → (i j : ℕ) → i < j → j < n → key (get_or (hops_n W s n) i d) ≡ key (get_or (hops_n W s n) j d) → ⊥
   keys_apart key tells d {n} e i j l m q =
       let v = at i (omega arith) in
@@ -263,30 +264,30 @@ module _ {S H E : Type 0} (W : Walk S H E) (s : S) where
   unfolding walk_n
   reach_start = record { hops = λ k l. absurd (omega arith); here = refl }
 
-  pub reach_stand : {n : ℕ} {x : S} {h : H} → Reached W s n x → W.hop x ≡ some h → walk_n W s n ≡ stand x
+  pub reach_stand : {n : ℕ} {x : S} {h : H} → Reached W s n x → W.hop x ≡ Some h → walk_n W s n ≡ stand x
   unfolding arrive found
   reach_stand r f = r.here ∙ rw f
 
-  pub reach_next : {n : ℕ} {x : S} {h : H} → Reached W s n x → W.hop x ≡ some h → walk_n W s (n + 1) ≡ turned W (W.next x h)
+  pub reach_next : {n : ℕ} {x : S} {h : H} → Reached W s n x → W.hop x ≡ Some h → walk_n W s (n + 1) ≡ turned W (W.next x h)
   unfolding walk_n onward made
   reach_next {n} r f = rw (add-one n, reach_stand r f, f)
 
-  reach_more : {n : ℕ} {x : S} {h : H} → Reached W s n x → W.hop x ≡ some h → (k : ℕ) → k < n + 1 → going (walk_n W s k) ≡ true
+  reach_more : {n : ℕ} {x : S} {h : H} → Reached W s n x → W.hop x ≡ Some h → (k : ℕ) → k < n + 1 → going (walk_n W s k) ≡ true
   reach_more {n} r f k l = going_before W s k n (omega arith) (stand_going (reach_stand r f))
 
-  pub reach_on : {n : ℕ} {x y : S} {h : H} → Reached W s n x → W.hop x ≡ some h → W.next x h ≡ on y → Reached W s (n + 1) y
+  pub reach_on : {n : ℕ} {x y : S} {h : H} → Reached W s n x → W.hop x ≡ Some h → W.next x h ≡ on y → Reached W s (n + 1) y
   unfolding turned
   reach_on r f q = record { hops = reach_more r f; here = reach_next r f ∙ ap (turned W) q }
 
-  pub reach_ends : {n : ℕ} {x : S} {h : H} {e : E} → Reached W s n x → W.hop x ≡ some h → W.next x h ≡ ends e → EndsAfter W s (n + 1) × (walk_n W s (n + 1) ≡ ended e)
+  pub reach_ends : {n : ℕ} {x : S} {h : H} {e : E} → Reached W s n x → W.hop x ≡ Some h → W.next x h ≡ ends e → EndsAfter W s (n + 1) × (walk_n W s (n + 1) ≡ ended e)
   unfolding turned going
   reach_ends r f q = let w = reach_next r f ∙ ap (turned W) q in (record { hops = reach_more r f; over = ap going w }, w)
 
-  pub reach_stops : {n : ℕ} {x : S} → Reached W s n x → W.hop x ≡ none → EndsAfter W s n × (walk_n W s n ≡ stopped)
+  pub reach_stops : {n : ℕ} {x : S} → Reached W s n x → W.hop x ≡ None → EndsAfter W s n × (walk_n W s n ≡ stopped)
   unfolding arrive found going
   reach_stops {n} r f = let w : walk_n W s n ≡ stopped = r.here ∙ rw f in (record { hops = r.hops; over = ap going w }, w)
 
-  pub reach_hops : {n : ℕ} {x : S} {h : H} → Reached W s n x → W.hop x ≡ some h → hops_n W s (n + 1) ≡ hops_n W s n ++ (h ∷ [])
+  pub reach_hops : {n : ℕ} {x : S} {h : H} → Reached W s n x → W.hop x ≡ Some h → hops_n W s (n + 1) ≡ hops_n W s n ++ (h ∷ [])
   reach_hops {n} {x} {h} r f = rw (add-one n) (hops_more W s n x h (reach_stand r f) f)
 
 -- ---- with a rank
@@ -294,8 +295,8 @@ module _ {S H E : Type 0} (W : Walk S H E) (s : S) where
 -- a number below N for each state with a hop to make, no number for two of them
 pub record Ranked {S H E : Type 0} (W : Walk S H E) (N : ℕ) : Type 0 where
   pub rank : S → ℕ
-  pub below : (x : S) (h : H) → W.hop x ≡ some h → rank x < N
-  pub apart : (x y : S) (h g : H) → W.hop x ≡ some h → W.hop y ≡ some g → rank x ≡ rank y → x ≡ y
+  pub below : (x : S) (h : H) → W.hop x ≡ Some h → rank x < N
+  pub apart : (x y : S) (h g : H) → W.hop x ≡ Some h → W.hop y ≡ Some g → rank x ≡ rank y → x ≡ y
 
 abbrev rank_at : {S E : Type 0} → (S → ℕ) → Spot S E → ℕ
 rank_at rank (stand x) = rank x
@@ -347,7 +348,7 @@ module _ {S H E : Type 0} (W : Walk S H E) (N : ℕ) (r : Ranked W N) (s : S) wh
   enough e k l = let b = ends_within e in ends_stays W s e k (omega arith)
 
   -- a loop that has made N hops and finds one more never ends
-  pub reach_never : {x : S} {h : H} → Reached W s N x → W.hop x ≡ some h → Never W s
+  pub reach_never : {x : S} {h : H} → Reached W s N x → W.hop x ≡ Some h → Never W s
   reach_never q f = never_at N (omega arith) (stand_going (reach_stand W s q f))
 
 -- ---- a rank from a table: the place of the first entry at the state
@@ -387,7 +388,7 @@ module _ {A : Type 0} where
 -- an entry is at one state at most, and there is a hop only where an entry is
 module _ {S H E A : Type 0} (W : Walk S H E) (es : List A) (at : S → A → Bool)
     (one : (x y : S) (e : A) → at x e ≡ true → at y e ≡ true → x ≡ y)
-    (held : (x : S) (h : H) → W.hop x ≡ some h → has (at x) es ≡ true) where
+    (held : (x : S) (h : H) → W.hop x ≡ Some h → has (at x) es ≡ true) where
   pub table_ranked : Ranked W (length es)
   table_ranked = record {
     rank = λ x. place (at x) es;

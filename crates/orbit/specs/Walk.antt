@@ -1,7 +1,7 @@
 -- A walk, hop by hop, over any states: what "ends after n hops", "never ends" and "comes again" mean. Assumes nothing.
-use Rattle.std.specs.Prelude.{ℕ, zero, suc, ◌<◌, ◌≡◌, Bool, true, false}
-use mathlib.Core.List.{List, [], ◌++◌, Option-to_list}
-use Rattle.std.proofs.Math.Option.{Option, none, some}
+use Rattle.std.specs.Prelude.{ℕ, zero, suc, ◌<◌, ◌≡◌, Bool, true, false, Option, None, Some}
+use mathlib.Core.List.{List, [], ◌++◌}
+use Rattle.std.specs.Option.{option_to_list}
 
 -- where a hop leads: on to a state, or to an end
 pub data Turn (S E : Type 0) : Type 0 where
@@ -27,8 +27,8 @@ going stopped = false
 
 -- at a state, by the hop found there
 unfoldable pub found : {S H E : Type 0} → S → Option H → Spot S E
-found s none = stopped
-found s (some h) = stand s
+found s None = stopped
+found s (Some h) = stand s
 
 module _ {S H E : Type 0} (W : Walk S H E) where
   -- the spot of a walk that comes to a state
@@ -42,8 +42,8 @@ module _ {S H E : Type 0} (W : Walk S H E) where
 
   -- the spot after the hop found at a state
   unfoldable pub made : S → Option H → Spot S E
-  made s none = stopped
-  made s (some h) = turned (W.next s h)
+  made s None = stopped
+  made s (Some h) = turned (W.next s h)
 
   -- one hop on; a walk that has ended or stopped stays as it is
   unfoldable pub onward : Spot S E → Spot S E
@@ -58,7 +58,7 @@ module _ {S H E : Type 0} (W : Walk S H E) where
 
   -- the hop made from a spot, if there is one
   unfoldable pub hop_at : Spot S E → List H
-  hop_at (stand s) = Option-to_list (W.hop s)
+  hop_at (stand s) = option_to_list (W.hop s)
   hop_at (ended e) = []
   hop_at stopped = []
 

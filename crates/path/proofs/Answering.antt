@@ -3,7 +3,7 @@ use Prim.Native.Nat.{ℕ, ◌+◌, ◌*◌, ◌≤◌, ◌<◌}
 use mathlib.Core.Path.{◌≡◌, refl, sym, ap, ◌∙◌, subst}
 use mathlib.Core.Bool.{Bool, true, false, cond, true≢false}
 use mathlib.Core.List.{List, [], ◌∷◌, ◌++◌, append-nil}
-use mathlib.Core.Option.{Option, none, some}
+use Rattle.std.specs.Prelude.{Option, None, Some, Err, Ok, Result}
 use native.Mathlib.Omega.{arith}
 use native.Mathlib.Decide.{dec_lt}
 use lib.Dec.{ltb}
@@ -14,10 +14,10 @@ use Rattle.refusal.specs.Outcome.{Outcome, refused, value, bind}
 use Rattle.tables.specs.Rows.{EntryRow}
 use Rattle.tables.specs.Packed.{entry_word, entries_in}
 use Rattle.tables.proofs.Laws.{device_past_routes}
-use Rattle.load.specs.Answers.{refused_by}
+use Rattle.refusal.specs.Refusal.{refused_by}
 use Rattle.load.specs.Loading.{valid_entries}
-use Rattle.load.specs.declared.Refusal.{Refusal}
-use Rattle.load.proofs.Result.{refused_bind}
+use Rattle.refusal.specs.declared.Refusal.{Refusal}
+use Rattle.refusal.proofs.Laws.{refused_bind}
 use Rattle.orbit.specs.Walk.{hops_n}
 use Rattle.orbit.proofs.Orbit.{reach_start, reach_ends, reach_stops, ends_within}
 use Rattle.fabric.specs.Fabric.{leads}
@@ -26,16 +26,16 @@ use Rattle.fabric.proofs.Laws.{leads_missing}
 use Rattle.walk.specs.Walking.{Stand, turn_by, walk_on, path_of}
 use Rattle.walk.specs.Rule.{settled, walk_from, in_room}
 use Rattle.walk.specs.Tables.{rows_of, Tabled, Leaving, leaves, leaving_of, leaving_by, tally_outcome, hops_by, is_path as is-path, Tallied}
-use Rattle.walk.specs.declared.Walked.{Walked}
-use Rattle.walk.specs.declared.Walked.TheVariants as walked
 use Rattle.path.specs.Words.{hops_words, path_words, words_needed, with_path, output_by}
 use Rattle.path.specs.Work.{walk_in, so_far, HopsPut}
-use Rattle.path.specs.Put.{walk_outcome, is_path, Sized, Put, WalkPut}
-use Rattle.path.specs.declared.WalkAnswer.{WalkAnswer}
-use Rattle.path.specs.declared.WalkAnswer.TheVariants as answer
+use Rattle.path.specs.Put.{is_path, Sized, Put, WalkPut}
 use Rattle.walk.proofs.Leading.{there_below}
 use Rattle.walk.proofs.Laws.{walk_ends, ranked, hopped, sound, rule}
 use Rattle.path.proofs.Writing.{refused_as_lem, length_path_words}
+use Rattle.refusal.specs.Refusal.{outcome}
+use Rattle.refusal.specs.declared.Refusal.TheVariants as refusal
+use Rattle.walk.specs.Tables.{walked_to}
+use Rattle.walk.specs.declared.Walked.{Walked}
 
 -- ---- the start of a path
 
@@ -44,21 +44,21 @@ leads_far : (en ad ro ma : List ℕ) (p o : ℕ) → length ro ≤ p → leads (
 unfolding rows_of rows_with
 leads_far en ad ro ma p o l = sym (leads_missing (rows_of en ad ro ma) p o (device_past_routes 0 ro ma p l))
 
-module _ (en ad ro ma : List ℕ) (s : Stand) (hs : List EntryRow) (e : walk_from (rows_of en ad ro ma) s ≡ value (some hs)) where
+module _ (en ad ro ma : List ℕ) (s : Stand) (hs : List EntryRow) (e : walk_from (rows_of en ad ro ma) s ≡ value (Some hs)) where
   pub start_there : s.place < length ro
   unfolding settled path_of hops_n walk_on turn_by
   start_there = go (dec_lt s.place (length ro)) ((walk_on (rows_of en ad ro ma)).hop s) refl
     where
       go : Dec (s.place < length ro) → (o : Option EntryRow) → (walk_on (rows_of en ad ro ma)).hop s ≡ o → s.place < length ro
       go (yes l) o f = l
-      go (no l) none f = absurd (
+      go (no l) None f = absurd (
           let w = reach_stops (walk_on (rows_of en ad ro ma)) s (reach_start (walk_on (rows_of en ad ro ma)) s) f in
-          let v : value (some hs) ≡ value none = sym e ∙ walk_ends (rows_of en ad ro ma) s w.0 ∙ ap (settled []) w.1 in
+          let v : value (Some hs) ≡ value None = sym e ∙ walk_ends (rows_of en ad ro ma) s w.0 ∙ ap (settled []) w.1 in
           let z : ◌≡◌ {A = ℕ} 0 1 = cc in
           omega arith)
-      go (no l) (some h) f = absurd (
+      go (no l) (Some h) f = absurd (
           let w = reach_ends (walk_on (rows_of en ad ro ma)) s (reach_start (walk_on (rows_of en ad ro ma)) s) f (ap (turn_by h) (leads_far en ad ro ma s.place h.out_adapter (omega arith))) in
-          let v : value (some hs) ≡ refused 14 [] = sym e ∙ walk_ends (rows_of en ad ro ma) s w.0 ∙ ap (settled _) w.1 in
+          let v : value (Some hs) ≡ refused 14 [] = sym e ∙ walk_ends (rows_of en ad ro ma) s w.0 ∙ ap (settled _) w.1 in
           let z : ◌≡◌ {A = ℕ} 0 1 = cc in
           omega arith)
 
@@ -73,7 +73,7 @@ module _ (en ad ro ma : List ℕ) (s : Stand) (name : ℕ) (out : List ℕ) wher
       no_room hs f = omega (arith, length_path_words name hs)
 
   -- a path has no more hops than there are entries
-  few : Sized en ro → (hs : List EntryRow) (e : walk_from (rows_of en ad ro ma) s ≡ value (some hs)) → (hopped (rows_of en ad ro ma) s hs e).count ≤ 4096
+  few : Sized en ro → (hs : List EntryRow) (e : walk_from (rows_of en ad ro ma) s ≡ value (Some hs)) → (hopped (rows_of en ad ro ma) s hs e).count ≤ 4096
   unfolding rows_of rows_with
   few z hs e = omega (arith, ends_within (walk_on (rows_of en ad ro ma)) (valid_entries (rows_of en ad ro ma)) (ranked (rows_of en ad ro ma)) s (hopped (rows_of en ad ro ma) s hs e).ends, length-map en entry_word, z.entries)
 
@@ -91,7 +91,7 @@ module _ (en ad ro ma : List ℕ) (s : Stand) (name : ℕ) (out : List ℕ) wher
     long = length-set mid 0 w ∙ p.long;
   }
     where
-      all : Sized en ro → Tabled en ad ro → (hs : List EntryRow) → walk_from (rows_of en ad ro ma) s ≡ value (some hs) → words_needed name hs ≤ length out → (n ≡ length hs) × (mid ≡ so_far (get_or out 0 0) hs out) × (n ≤ 4096)
+      all : Sized en ro → Tabled en ad ro → (hs : List EntryRow) → walk_from (rows_of en ad ro ma) s ≡ value (Some hs) → words_needed name hs ≤ length out → (n ≡ length hs) × (mid ≡ so_far (get_or out 0 0) hs out) × (n ≤ 4096)
       all z t hs e f =
           let g = hopped (rows_of en ad ro ma) s hs e in
           let y = p.words z t (start_there en ad ro ma s hs e) g.count g.ends (omega (arith, g.long, length_path_words name hs)) in
@@ -104,22 +104,22 @@ unfolding bind
 leaves_refused (refused k vs) z e = (k, vs, refl, sym (refused_bind z (λ y. refused 0 [])) ∙ ap (λ w. bind w (λ y. refused 0 [])) e)
 leaves_refused (value y) z e = absurd (let w = refused_as_lem (value (leaves y)) z e in let v = w.2 in let u : ◌≡◌ {A = ℕ} 0 1 = cc in omega arith)
 
-leaves_none : (o : Outcome (Option (List EntryRow))) → value none ≡ bind o (λ y. value (leaves y)) → (o ≡ value (some []) → ⊥) → o ≡ value none
+leaves_none : (o : Outcome (Option (List EntryRow))) → value None ≡ bind o (λ y. value (leaves y)) → (o ≡ value (Some []) → ⊥) → o ≡ value None
 unfolding bind leaves leaving_of
 leaves_none (refused k vs) e n = absurd (let z : ◌≡◌ {A = ℕ} 0 1 = cc in omega arith)
-leaves_none (value none) e n = refl
-leaves_none (value (some [])) e n = absurd (n refl)
-leaves_none (value (some (h ∷ hs))) e n = absurd (let z : ◌≡◌ {A = ℕ} 0 1 = cc in omega arith)
+leaves_none (value None) e n = refl
+leaves_none (value (Some [])) e n = absurd (n refl)
+leaves_none (value (Some (h ∷ hs))) e n = absurd (let z : ◌≡◌ {A = ℕ} 0 1 = cc in omega arith)
 
-leaves_some : (o : Outcome (Option (List EntryRow))) (l : Leaving) → value (some l) ≡ bind o (λ y. value (leaves y)) → (hs : List EntryRow) × (o ≡ value (some hs)) × (l.hops ≡ length hs)
+leaves_some : (o : Outcome (Option (List EntryRow))) (l : Leaving) → value (Some l) ≡ bind o (λ y. value (leaves y)) → (hs : List EntryRow) × (o ≡ value (Some hs)) × (l.hops ≡ length hs)
 unfolding bind leaves leaving_of leaving_by
 leaves_some (refused k vs) l e = absurd (let z : ◌≡◌ {A = ℕ} 0 1 = cc in omega arith)
-leaves_some (value none) l e = absurd (let z : ◌≡◌ {A = ℕ} 0 1 = cc in omega arith)
-leaves_some (value (some [])) l e = absurd (let z : ◌≡◌ {A = ℕ} 0 1 = cc in omega arith)
-leaves_some (value (some (h ∷ hs))) l e = (h ∷ hs, refl, cc)
+leaves_some (value None) l e = absurd (let z : ◌≡◌ {A = ℕ} 0 1 = cc in omega arith)
+leaves_some (value (Some [])) l e = absurd (let z : ◌≡◌ {A = ℕ} 0 1 = cc in omega arith)
+leaves_some (value (Some (h ∷ hs))) l e = (h ∷ hs, refl, cc)
 
 -- a path has a hop, and no more than there are entries
-pub hops_few : (en ad ro ma : List ℕ) (s : Stand) (r : Walked) → Sized en ro → Tallied en ad ro ma s r → (n q a h : ℕ) → r ≡ walked.Path n q a h → (0 < n) × (n ≤ length en) × (n ≤ 4096)
+pub hops_few : (en ad ro ma : List ℕ) (s : Stand) (r : Result (Option Walked) Refusal) → Sized en ro → Tallied en ad ro ma s r → (n q a h : ℕ) → r ≡ walked_to n q a h → (0 < n) × (n ≤ length en) × (n ≤ 4096)
 unfolding hops_by is-path
 hops_few en ad ro ma s r z f n q a h e =
     let k : n ≤ length en = subst (λ w. hops_by w ≤ length en) e f.few in
@@ -128,23 +128,23 @@ hops_few en ad ro ma s r z f n q a h e =
 -- ---- what is answered
 
 -- a number of hops is answered only where there is room
-wrote_path : (name n : ℕ) (hs : List EntryRow) (out out' : List ℕ) → value (some n) ≡ bind (value (some hs)) (in_room (words_needed name) (length out)) → out' ≡ output_by name (value (some hs)) out → out' ≡ with_path name hs out
+wrote_path : (name n : ℕ) (hs : List EntryRow) (out out' : List ℕ) → value (Some n) ≡ bind (value (Some hs)) (in_room (words_needed name) (length out)) → out' ≡ output_by name (value (Some hs)) out → out' ≡ with_path name hs out
 unfolding bind in_room output_by
 wrote_path name n hs out out' e f = go (ltb (length out) (words_needed name hs)) e f
   where
-    go : (b : Bool) → value (some n) ≡ cond b (refused 2 (words_needed name hs ∷ [])) (value (some (length hs))) → out' ≡ cond b out (with_path name hs out) → out' ≡ with_path name hs out
+    go : (b : Bool) → value (Some n) ≡ cond b (refused 2 (words_needed name hs ∷ [])) (value (Some (length hs))) → out' ≡ cond b out (with_path name hs out) → out' ≡ with_path name hs out
     go true p q = absurd (let z : ◌≡◌ {A = ℕ} 0 1 = cc in omega arith)
     go false p q = q
 
 module _ (en ad ro ma : List ℕ) (s : Stand) (name : ℕ) (out : List ℕ) where
-  abbrev walked_to : Outcome (Option (List EntryRow))
-  walked_to = walk_from (rows_of en ad ro ma) s
+  abbrev whole_walk : Outcome (Option (List EntryRow))
+  whole_walk = walk_from (rows_of en ad ro ma) s
 
   -- an answer and an output that follow the walk keep demand 3
-  put_by : (a : WalkAnswer) (out' : List ℕ)
-      → (Sized en ro → Tabled en ad ro → s.place < 65536 → (walk_outcome a ≡ bind walked_to (in_room (words_needed name) (length out))) × (out' ≡ output_by name walked_to out))
-      → (65535 < s.place → a ≡ answer.Absent) → ((Sized en ro → ⊥) → a ≡ answer.Absent) → (is_path a ≡ false → out' ≡ out)
-      → ((n : ℕ) → a ≡ answer.Path n → (0 < n) × (1 + 2 * n ≤ length out) × (drop (1 + 2 * n) out' ≡ drop (1 + 2 * n) out)) → length out' ≡ length out → Put en ad ro ma s name out a out'
+  put_by : (a : Result (Option ℕ) Refusal) (out' : List ℕ)
+      → (Sized en ro → Tabled en ad ro → s.place < 65536 → (outcome a ≡ bind whole_walk (in_room (words_needed name) (length out))) × (out' ≡ output_by name whole_walk out))
+      → (65535 < s.place → a ≡ (Ok None)) → ((Sized en ro → ⊥) → a ≡ (Ok None)) → (is_path a ≡ false → out' ≡ out)
+      → ((n : ℕ) → a ≡ Ok (Some n) → (0 < n) × (1 + 2 * n ≤ length out) × (drop (1 + 2 * n) out' ≡ drop (1 + 2 * n) out)) → length out' ≡ length out → Put en ad ro ma s name out a out'
   unfolding rows_of rows_with
   put_by a out' follows past larger kept path long = record {
     answers = λ z t l. (follows z t l).0;
@@ -158,63 +158,63 @@ module _ (en ad ro ma : List ℕ) (s : Stand) (name : ℕ) (out : List ℕ) wher
     walks = λ z t d q.
         let g = sound en ad ro ma s d q in
         let w = follows z t (omega (arith, t.devices, there_below (entries_in en) ad ro ma s.place g.start)) in
-        rule (rows_of en ad ro ma) s (words_needed name) (length out) (λ hs. out' ≡ with_path name hs out) (walk_outcome a) g w.0
+        rule (rows_of en ad ro ma) s (words_needed name) (length out) (λ hs. out' ≡ with_path name hs out) (outcome a) g w.0
         (λ hs n e v. wrote_path name n hs out out' (sym v ∙ w.0 ∙ ap (λ y. bind y (in_room (words_needed name) (length out))) e) (w.1 ∙ ap (λ y. output_by name y out) e));
   }
 
   -- no path, and nothing is written
-  put_none : (a : WalkAnswer) → is_path a ≡ false → (Sized en ro → Tabled en ad ro → s.place < 65536 → (walk_outcome a ≡ bind walked_to (in_room (words_needed name) (length out))) × (out ≡ output_by name walked_to out))
-      → (65535 < s.place → a ≡ answer.Absent) → ((Sized en ro → ⊥) → a ≡ answer.Absent) → Put en ad ro ma s name out a out
+  put_none : (a : Result (Option ℕ) Refusal) → is_path a ≡ false → (Sized en ro → Tabled en ad ro → s.place < 65536 → (outcome a ≡ bind whole_walk (in_room (words_needed name) (length out))) × (out ≡ output_by name whole_walk out))
+      → (65535 < s.place → a ≡ (Ok None)) → ((Sized en ro → ⊥) → a ≡ (Ok None)) → Put en ad ro ma s name out a out
   unfolding is_path
   put_none a b follows past larger = put_by a out follows past larger (λ p. refl) (λ n e. absurd (true≢false (sym (ap is_path e) ∙ b))) refl
 
   -- tables larger than a survey's
-  pub put_larger : (Sized en ro → ⊥) → Put en ad ro ma s name out answer.Absent out
+  pub put_larger : (Sized en ro → ⊥) → Put en ad ro ma s name out (Ok None) out
   unfolding is_path
-  put_larger n = put_none answer.Absent refl (λ z t l. absurd (n z)) (λ l. refl) (λ z. refl)
+  put_larger n = put_none (Ok None) refl (λ z t l. absurd (n z)) (λ l. refl) (λ z. refl)
 
   -- the outcome put in
-  by_outcome : (a : WalkAnswer) (out' : List ℕ) (o : Outcome (Option (List EntryRow))) → walked_to ≡ o → walk_outcome a ≡ bind o (in_room (words_needed name) (length out)) → out' ≡ output_by name o out
-      → (walk_outcome a ≡ bind walked_to (in_room (words_needed name) (length out))) × (out' ≡ output_by name walked_to out)
+  by_outcome : (a : Result (Option ℕ) Refusal) (out' : List ℕ) (o : Outcome (Option (List EntryRow))) → whole_walk ≡ o → outcome a ≡ bind o (in_room (words_needed name) (length out)) → out' ≡ output_by name o out
+      → (outcome a ≡ bind whole_walk (in_room (words_needed name) (length out))) × (out' ≡ output_by name whole_walk out)
   by_outcome a out' o e p q = (p ∙ ap (λ z. bind z (in_room (words_needed name) (length out))) (sym e), q ∙ ap (λ z. output_by name z out) (sym e))
 
-  module _ (r : Walked) (z : Sized en ro) (f : Tallied en ad ro ma s r) where
-    pub put_refused : (x : Refusal) → r ≡ walked.Refused x → Put en ad ro ma s name out (answer.Refused x) out
-    unfolding walk_outcome output_by bind tally_outcome is_path
-    put_refused x e = put_none (answer.Refused x) refl
-        (λ y t l. let w = leaves_refused walked_to x (sym (ap tally_outcome e) ∙ f.answers t l) in by_outcome (answer.Refused x) out (refused w.0 w.1) w.2 w.3 refl)
+  module _ (r : Result (Option Walked) Refusal) (z : Sized en ro) (f : Tallied en ad ro ma s r) where
+    pub put_refused : (x : Refusal) → r ≡ Err x → Put en ad ro ma s name out (Err x) out
+    unfolding output_by bind tally_outcome is_path
+    put_refused x e = put_none (Err x) refl
+        (λ y t l. let w = leaves_refused whole_walk x (sym (ap tally_outcome e) ∙ f.answers t l) in by_outcome (Err x) out (refused w.0 w.1) w.2 w.3 refl)
         (λ l. absurd (let p = f.past l in let y : ◌≡◌ {A = ℕ} 0 1 = cc in omega arith))
         (λ n. absurd (n z))
 
-    pub put_absent : r ≡ walked.Absent → Put en ad ro ma s name out answer.Absent out
-    unfolding walk_outcome output_by bind in_room tally_outcome is_path
-    put_absent e = put_none answer.Absent refl
-        (λ y t l. by_outcome answer.Absent out (value none) (leaves_none walked_to (sym (ap tally_outcome e) ∙ f.answers t l) (λ q. let h = hopped (rows_of en ad ro ma) s [] q in omega (arith, h.one, h.long))) refl refl)
+    pub put_absent : r ≡ (Ok None) → Put en ad ro ma s name out (Ok None) out
+    unfolding output_by bind in_room tally_outcome is_path
+    put_absent e = put_none (Ok None) refl
+        (λ y t l. by_outcome (Ok None) out (value None) (leaves_none whole_walk (sym (ap tally_outcome e) ∙ f.answers t l) (λ q. let h = hopped (rows_of en ad ro ma) s [] q in omega (arith, h.one, h.long))) refl refl)
         (λ l. refl)
         (λ n. refl)
 
-    module _ (n q a h : ℕ) (e : r ≡ walked.Path n q a h) where
+    module _ (n q a h : ℕ) (e : r ≡ walked_to n q a h) where
       -- on tables as loading leaves them the number of hops is the path's
-      hops_are : Tabled en ad ro → s.place < 65536 → (hs : List EntryRow) × (walked_to ≡ value (some hs)) × (n ≡ length hs)
+      hops_are : Tabled en ad ro → s.place < 65536 → (hs : List EntryRow) × (whole_walk ≡ value (Some hs)) × (n ≡ length hs)
       unfolding tally_outcome
-      hops_are t l = leaves_some walked_to (record { hops = n; place = q; adapter = a; hop_id = h }) (sym (ap tally_outcome e) ∙ f.answers t l)
+      hops_are t l = leaves_some whole_walk (record { hops = n; place = q; adapter = a; hop_id = h }) (sym (ap tally_outcome e) ∙ f.answers t l)
 
       no_path_lem : 65535 < s.place → ⊥
       no_path_lem l = let p = f.past l in let y : ◌≡◌ {A = ℕ} 0 1 = cc in omega arith
 
-      pub put_short : length out < 1 + 2 * n → Put en ad ro ma s name out (answer.Short (1 + 2 * n)) out
-      unfolding walk_outcome output_by bind in_room is_path
+      pub put_short : length out < 1 + 2 * n → Put en ad ro ma s name out (Err (refusal.Short (1 + 2 * n))) out
+      unfolding output_by bind in_room is_path
       put_short k = put_none _ refl
           (λ y t l.
           let w = hops_are t l in
           let m : 1 + 2 * n ≡ words_needed name w.0 = omega (arith, w.2, length_path_words name w.0) in
           let b : ltb (length out) (words_needed name w.0) ≡ true = lt-ltb (length out) (words_needed name w.0) (omega arith) in
-          by_outcome (answer.Short (1 + 2 * n)) out (value (some w.0)) w.1 (ap (λ x. refused 2 (x ∷ [])) m ∙ ap (λ x. cond x (refused 2 (words_needed name w.0 ∷ [])) (value (some (length w.0)))) (sym b)) (ap (λ x. cond x out (with_path name w.0 out)) (sym b)))
+          by_outcome (Err (refusal.Short (1 + 2 * n))) out (value (Some w.0)) w.1 (ap (λ x. refused 2 (x ∷ [])) m ∙ ap (λ x. cond x (refused 2 (words_needed name w.0 ∷ [])) (value (Some (length w.0)))) (sym b)) (ap (λ x. cond x out (with_path name w.0 out)) (sym b)))
           (λ l. absurd (no_path_lem l))
           (λ x. absurd (x z))
 
-      pub put_whole : (S : List ℕ) (i : ℕ) → 1 + 2 * n ≤ length out → length S ≡ length (take (1 + 2 * n) out) → WalkPut en ad ro ma s name (take (1 + 2 * n) out) i S → Put en ad ro ma s name out (answer.Path n) (S ++ drop (1 + 2 * n) out)
-      unfolding walk_outcome output_by bind in_room is_path with_path
+      pub put_whole : (S : List ℕ) (i : ℕ) → 1 + 2 * n ≤ length out → length S ≡ length (take (1 + 2 * n) out) → WalkPut en ad ro ma s name (take (1 + 2 * n) out) i S → Put en ad ro ma s name out (Ok (Some n)) (S ++ drop (1 + 2 * n) out)
+      unfolding output_by bind in_room is_path with_path
       put_whole S i k m v = let few = hops_few en ad ro ma s r z f n q a h e in put_by _ (S ++ drop (1 + 2 * n) out)
           (λ y t l.
           let w = hops_are t l in
@@ -222,7 +222,7 @@ module _ (en ad ro ma : List ℕ) (s : Stand) (name : ℕ) (out : List ℕ) wher
           let b : ltb (length out) (words_needed name w.0) ≡ false = le-ltb (length out) (words_needed name w.0) (omega arith) in
           let room : words_needed name w.0 ≤ length (take (1 + 2 * n) out) = omega (arith, length-take-le (1 + 2 * n) out k) in
           let p : S ≡ path_words name w.0 = v.writes z t w.0 w.1 room ∙ ap (λ x. path_words name w.0 ++ x) (drop_of_length-le (take (1 + 2 * n) out) {i = words_needed name w.0} (omega (arith, length-take-le (1 + 2 * n) out k))) ∙ append-nil (path_words name w.0) in
-          by_outcome (answer.Path n) (S ++ drop (1 + 2 * n) out) (value (some w.0)) w.1 (ap (λ x. value (some x)) w.2 ∙ ap (λ x. cond x (refused 2 (words_needed name w.0 ∷ [])) (value (some (length w.0)))) (sym b))
+          by_outcome (Ok (Some n)) (S ++ drop (1 + 2 * n) out) (value (Some w.0)) w.1 (ap (λ x. value (Some x)) w.2 ∙ ap (λ x. cond x (refused 2 (words_needed name w.0 ∷ [])) (value (Some (length w.0)))) (sym b))
           (ap (λ x. x ++ drop (1 + 2 * n) out) p ∙ ap (λ x. path_words name w.0 ++ drop x out) j ∙ ap (λ x. cond x out (with_path name w.0 out)) (sym b)))
           (λ l. absurd (no_path_lem l))
           (λ x. absurd (x z))

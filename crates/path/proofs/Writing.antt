@@ -3,7 +3,7 @@ use Prim.Native.Nat.{ℕ, suc, ◌+◌, ◌-◌, ◌*◌, ◌/◌, ◌≤◌, �
 use mathlib.Core.Path.{◌≡◌, refl, sym, ap, ◌∙◌, subst}
 use mathlib.Core.Bool.{true≢false}
 use mathlib.Core.List.{List, [], ◌∷◌, ◌++◌, append_assoc, append-nil}
-use mathlib.Core.Option.{some}
+use Rattle.std.specs.Prelude.{Some, None, Option, Ok, Err, Result}
 use native.Mathlib.Omega.{arith}
 use native.Mathlib.Decide.{dec_lt}
 use lib.ListN.{length, get_or, take, drop, set, length-append, length-drop, length-set}
@@ -12,23 +12,23 @@ use Rattle.refusal.specs.Outcome.{Outcome, refused, value, bind}
 use Rattle.tables.specs.Rows.{EntryRow}
 use Rattle.tables.specs.Packed.{entries_in}
 use Rattle.tables.specs.Found.{EntrySought, entry_found}
-use Rattle.tables.specs.declared.EntryAt.{EntryAt}
-use Rattle.tables.specs.declared.EntryAt.TheVariants as entry
-use Rattle.load.specs.Answers.{refused_by}
-use Rattle.load.specs.declared.Refusal.{Refusal}
-use Rattle.load.proofs.Result.{refused_bind}
+use Rattle.refusal.specs.Refusal.{refused_by}
+use Rattle.refusal.specs.declared.Refusal.{Refusal}
+use Rattle.refusal.proofs.Laws.{refused_bind}
 use Rattle.orbit.specs.Walk.{Turn.ends as comes-to, hops_n, EndsAfter}
 use Rattle.orbit.proofs.Orbit.{Reached, reach_start, reach_on, reach_ends, reach_stops, reach_hops, length_hops, ends_once}
 use Rattle.fabric.specs.Fabric.{leads}
 use Rattle.fabric.specs.Tables.{InOrder, LeadsTo, next_outcome, rows_with}
-use Rattle.fabric.specs.declared.Next.{Next}
-use Rattle.fabric.specs.declared.Next.TheVariants as next
 use Rattle.walk.specs.Walking.{Stand, End, End.path, End.no_path, End.fault, walk_on, turn_by}
 use Rattle.walk.specs.Tables.{rows_of, Tabled}
 use Rattle.walk.proofs.Leading.{there_below, leads_there, upstreams}
 use Rattle.path.specs.Words.{hop_words, hops_words, path_words, words_needed}
 use Rattle.path.specs.Put.{Sized}
 use Rattle.path.specs.Work.{walk_in, so_far, HopsPut}
+use Rattle.adapter.specs.declared.EntryOut.{EntryOut}
+use Rattle.adapter.specs.Paths.{entry_out}
+use Rattle.fabric.specs.declared.Next.{Next}
+use Rattle.fabric.specs.declared.Next.TheVariants as next
 
 -- ---- words
 
@@ -74,12 +74,12 @@ refused_as_lem (refused k vs) r e = (k, vs, refl)
 refused_as_lem {A} (value a) r e = absurd (let z : refused 0 [] ≡ value a = subst (λ o. bind o (λ b. refused 0 []) ≡ o) e (refused_bind r (λ b. refused 0 [])) in let y : ◌≡◌ {A = ℕ} 0 1 = cc in omega arith)
 
 -- a hop that leads nowhere further ends the walk
-ends_here : (e : EntryRow) (r : Next) → ((q a : ℕ) → r ≡ next.On q a → ⊥) → (z : End) × (turn_by e (next_outcome r) ≡ comes-to z)
+ends_here : (e : EntryRow) (r : Result Next Refusal) → ((q a : ℕ) → r ≡ Ok (next.On q a) → ⊥) → (z : End) × (turn_by e (next_outcome r) ≡ comes-to z)
 unfolding next_outcome turn_by
-ends_here e (next.On q a) k = absurd (k q a refl)
-ends_here e next.Last k = (path, refl)
-ends_here e next.Dropped k = (no_path, refl)
-ends_here e (next.Refused f) k = let w = refused_as_lem (refused_by f) f refl in (fault w.0 w.1, ap (turn_by e) w.2)
+ends_here e (Ok (next.On q a)) k = absurd (k q a refl)
+ends_here e (Ok next.Last) k = (path, refl)
+ends_here e (Ok next.Dropped) k = (no_path, refl)
+ends_here e (Err f) k = let w = refused_as_lem (refused_by f) f refl in (fault w.0 w.1, ap (turn_by e) w.2)
 
 -- ---- the loop
 
@@ -150,21 +150,21 @@ module _ (en ad ro ma : List ℕ) (s : Stand) (old : List ℕ) where
         whole m y (no q) = omega (arith, y.room)
 
     -- an entry is sought for the next hop
-    module _ (more : i < (length old - 1) / 2) (r : EntryAt) (f : EntrySought en p a h r) where
+    module _ (more : i < (length old - 1) / 2) (r : Option EntryOut) (f : EntrySought en p a h r) where
       found_hop : (m : ℕ) → Makes en ad ro ma s old m → (walk_in en ad ro ma).hop (stood p a h) ≡ entry_found p a h r
       unfolding walk_in walk_on rows_of rows_with
       found_hop m y = sym (f.first (omega (arith, (k.wrote m y).there, y.tabled.devices)) y.tabled.entry_order)
 
-      pub kept_missing : r ≡ entry.Missing → HopsPut en ad ro ma s old i out
+      pub kept_missing : r ≡ None → HopsPut en ad ro ma s old i out
       unfolding entry_found
       kept_missing e = done i out k.room k.long k.tail
           (λ m y. (ends_once (walk_in en ad ro ma) s (reach_stops (walk_in en ad ro ma) s (k.wrote m y).reached (found_hop m y ∙ ap (entry_found p a h) e)).0 y.ends, (k.wrote m y).words))
 
-      module _ (o g u v : ℕ) (e : r ≡ entry.Entry o g) (first : p < 4096 → u ≡ 10 * 268435456 + p * 65536 + a * 256 + o) (second : v ≡ h * 65536 + g) where
+      module _ (o g u v : ℕ) (e : r ≡ Some (entry_out o g)) (first : p < 4096 → u ≡ 10 * 268435456 + p * 65536 + a * 256 + o) (second : v ≡ h * 65536 + g) where
         abbrev out' : List ℕ
         out' = set (set out (1 + 2 * i) u) (2 + 2 * i) v
 
-        hop_here : (m : ℕ) → Makes en ad ro ma s old m → (walk_in en ad ro ma).hop (stood p a h) ≡ some (row p a h o g)
+        hop_here : (m : ℕ) → Makes en ad ro ma s old m → (walk_in en ad ro ma).hop (stood p a h) ≡ Some (row p a h o g)
         unfolding entry_found
         hop_here m y = found_hop m y ∙ ap (entry_found p a h) e
 
@@ -176,12 +176,12 @@ module _ (en ad ro ma : List ℕ) (s : Stand) (old : List ℕ) where
             (ap (λ z. z ∷ v ∷ []) (first (omega (arith, (k.wrote m y).there, y.sized.devices))) ∙ ap (λ z. (10 * 268435456 + p * 65536 + a * 256 + o) ∷ z ∷ []) second) (k.wrote m y).words
             ∙ ap (λ l. so_far (get_or old 0 0) l old) (sym (reach_hops (walk_in en ad ro ma) s (k.wrote m y).reached (hop_here m y)))
 
-        module _ (t : Next) (l : LeadsTo ad ro ma (λ x. leads x p o) t) where
+        module _ (t : Result Next Refusal) (l : LeadsTo ad ro ma (λ x. leads x p o) t) where
           hop_turn : (m : ℕ) → Makes en ad ro ma s old m → (walk_in en ad ro ma).next (stood p a h) (row p a h o g) ≡ turn_by (row p a h o g) (next_outcome t)
           unfolding walk_in walk_on rows_of
           hop_turn m y = ap (turn_by _) (sym (l.leads_to (in_order y.tabled) _))
 
-          pub kept_on : (q b : ℕ) → g < 65536 → t ≡ next.On q b → Kept en ad ro ma s old (i + 1) q b g out'
+          pub kept_on : (q b : ℕ) → g < 65536 → t ≡ Ok (next.On q b) → Kept en ad ro ma s old (i + 1) q b g out'
           unfolding next_outcome turn_by
           kept_on q b w x = record {
             hop_id = w;
@@ -196,7 +196,7 @@ module _ (en ad ro ma : List ℕ) (s : Stand) (old : List ℕ) where
           }
 
           -- where it leads nowhere further it is the last
-          pub kept_last : ((q b : ℕ) → t ≡ next.On q b → ⊥) → HopsPut en ad ro ma s old (i + 1) out'
+          pub kept_last : ((q b : ℕ) → t ≡ Ok (next.On q b) → ⊥) → HopsPut en ad ro ma s old (i + 1) out'
           kept_last w = done (i + 1) out' (omega arith) (two_long out i u v ∙ k.long) (two_tail out old i u v k.tail)
               (λ m y.
               let x = ends_here (row p a h o g) t w in

@@ -1,6 +1,5 @@
 -- Document 01, result words of a path. Assumes nothing.
-use Rattle.std.specs.Prelude.{ℕ, ◌+◌, ◌*◌, cond, List, [], ◌∷◌, ◌++◌, ltb, length, drop}
-use Rattle.std.proofs.Math.Option.{Option, none, some}
+use Rattle.std.specs.Prelude.{ℕ, ◌+◌, ◌*◌, cond, List, [], ◌∷◌, ◌++◌, ltb, length, drop, Option, None, Some}
 use Rattle.refusal.specs.Outcome.{Outcome, refused, value}
 use Rattle.tables.specs.Rows.{EntryRow}
 
@@ -25,5 +24,5 @@ with_path name hs old = path_words name hs ++ drop (words_needed name hs) old
 -- the output as it was, but where a path is answered
 unfoldable pub output_by : ℕ → Outcome (Option (List EntryRow)) → List ℕ → List ℕ
 output_by name (refused n vs) old = old
-output_by name (value none) old = old
-output_by name (value (some hs)) old = cond (ltb (length old) (words_needed name hs)) old (with_path name hs old)
+output_by name (value None) old = old
+output_by name (value (Some hs)) old = cond (ltb (length old) (words_needed name hs)) old (with_path name hs old)

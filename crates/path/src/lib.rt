@@ -7,18 +7,7 @@ ghost use Rattle.path.specs.Put.{Put, WalkPut};
 ghost use Rattle.path.specs.Work.{HopsPut};
 
 use fabric::Next;
-use load::Refusal;
-use tables::EntryAt;
-use walk::Walked;
-
-// A path with its number of hops, no path, the words needed (2), or another refusal.
-#[derive(Clone, Copy)]
-pub enum WalkAnswer {
-    Path(usize),
-    Absent,
-    Short(usize),
-    Refused(Refusal),
-}
+use refusal::Refusal;
 
 // No survey loads to more.
 const MOST_ENTRIES: usize = 4096;
@@ -59,26 +48,25 @@ fn put_hops(
     let mut h = hop;
     let mut i: usize = 0;
     while i < room {
-        let EntryAt::Entry {
-            out_adapter,
-            out_hop,
-        } = search::find_entry(entries, p, a, h)
-        else {
+        let Some(entry) = search::find_entry(entries, p, a, h) else {
             return i;
         };
-        output[1 + 2 * i] = hop_word(p, a, out_adapter);
-        output[2 + 2 * i] = (h as u32) * 65536 + out_hop as u32;
+        output[1 + 2 * i] = hop_word(p, a, entry.out_adapter);
+        output[2 + 2 * i] = (h as u32) * 65536 + entry.out_hop as u32;
         i += 1;
+        let Ok(next) = fabric::leads(adapters, routes, marks, p, entry.out_adapter) else {
+            return i;
+        };
         let Next::On {
             place: q,
             adapter: b,
-        } = fabric::leads(adapters, routes, marks, p, out_adapter)
+        } = next
         else {
             return i;
         };
         p = q;
         a = b;
-        h = out_hop;
+        h = entry.out_hop;
     }
     i
 }
@@ -118,40 +106,33 @@ pub fn put_path(
     hop: u16,
     name: u8,
     output: &mut [u32],
-) -> WalkAnswer
+) -> Result<Option<usize>, Refusal>
     ensures { Put entries.now adapters.now routes.now marks.now (record { place = place; adapter = adapter; hop_id = hop }) name output.old result output.new }
 {
     if MOST_ENTRIES < entries.len() {
-        return WalkAnswer::Absent;
+        return Ok(None);
     }
     if MOST_DEVICES < routes.len() {
-        return WalkAnswer::Absent;
+        return Ok(None);
     }
-    match walk::tally(entries, adapters, routes, marks, place, adapter, hop) {
-        Walked::Refused(refusal) => WalkAnswer::Refused(refusal),
-        Walked::Absent => WalkAnswer::Absent,
-        Walked::Path {
-            hops,
-            place: _,
-            adapter: _,
-            hop: _,
-        } => {
-            let need = 1 + 2 * hops;
-            if output.len() < need {
-                return WalkAnswer::Short(need);
-            }
-            put_walk(
-                entries,
-                adapters,
-                routes,
-                marks,
-                place,
-                adapter,
-                hop,
-                name,
-                &mut output[..need],
-            );
-            WalkAnswer::Path(hops)
-        }
+    let walked = walk::tally(entries, adapters, routes, marks, place, adapter, hop)?;
+    let Some(path) = walked else {
+        return Ok(None);
+    };
+    let need = 1 + 2 * path.hops;
+    if output.len() < need {
+        return Err(Refusal::Short(need));
     }
+    put_walk(
+        entries,
+        adapters,
+        routes,
+        marks,
+        place,
+        adapter,
+        hop,
+        name,
+        &mut output[..need],
+    );
+    Ok(Some(path.hops))
 }

@@ -11,50 +11,38 @@ ghost use Rattle.named.specs.Named.{path_space, named};
 ghost use Rattle.adapter.specs.Paths.{entry_of, entry_outcome};
 ghost use Rattle.paths.specs.Reading.{fields_for, leads, read_by};
 
-use adapter::EntryFound;
-use fields::FieldFound;
-use naming::{Found, Sought};
+use adapter::EntryOut;
+use fields::BitField;
+use naming::Sought;
+use refusal::FieldError;
 
 // Where the fields of a path entry stand.
 #[derive(Clone, Copy)]
 pub struct EntryFields {
-    pub valid: FieldFound,
-    pub hop: FieldFound,
-    pub out: FieldFound,
+    pub valid: Option<BitField>,
+    pub hop: Option<BitField>,
+    pub out: Option<BitField>,
 }
 
 // Where a valid entry leads: Output HopID, then Output Adapter.
-fn leads_to(fields: EntryFields, value: u32) -> EntryFound
+fn leads_to(fields: EntryFields, value: u32) -> Result<Option<EntryOut>, FieldError>
     ensures { result ≡ leads (value_in value fields.hop) (value_in value fields.out) }
 {
-    let hop = fields.hop;
-    let FieldFound::Bits { start, end } = hop else {
-        return EntryFound::NoField;
-    };
-    let out = fields.out;
-    let FieldFound::Bits {
-        start: first,
-        end: last,
-    } = out
-    else {
-        return EntryFound::NoField;
-    };
-    EntryFound::Entry {
-        out_adapter: (util::bits(value, first, last) % 256) as u8,
-        out_hop: (util::bits(value, start, end) % 65536) as u16,
-    }
+    let hop = fields.hop.ok_or(FieldError::NoField)?;
+    let out = fields.out.ok_or(FieldError::NoField)?;
+    Ok(Some(EntryOut {
+        out_adapter: (util::bits(value, out.start, out.end) % 256) as u8,
+        out_hop: (util::bits(value, hop.start, hop.end) % 65536) as u16,
+    }))
 }
 
 // What a path register with a value says: Valid, then Output HopID, then Output Adapter.
-pub fn entry_by(fields: EntryFields, value: u32) -> EntryFound
+pub fn entry_by(fields: EntryFields, value: u32) -> Result<Option<EntryOut>, FieldError>
     ensures { result ≡ read_by fields value }
 {
-    let valid = fields.valid;
-    let FieldFound::Bits { start, end } = valid else {
-        return EntryFound::NoField;
-    };
-    if util::bits(value, start, end) == 0 {
-        return EntryFound::Invalid;
+    let valid = fields.valid.ok_or(FieldError::NoField)?;
+    if util::bits(value, valid.start, valid.end) == 0 {
+        return Ok(None);
     }
     leads_to(fields, value)
 }
@@ -70,11 +58,11 @@ pub fn fields_of(descriptions: &[u32], kind: u32, ids: u32, vs: u32) -> EntryFie
         cap: ids % 65536,
         vs,
     };
-    let Found::At(group) = naming::find_group(descriptions, q) else {
+    let Some(group) = naming::find_group(descriptions, q) else {
         return EntryFields {
-            valid: FieldFound::Missing,
-            hop: FieldFound::Missing,
-            out: FieldFound::Missing,
+            valid: None,
+            hop: None,
+            out: None,
         };
     };
     EntryFields {
@@ -92,7 +80,7 @@ pub fn entry_of(
     ids: u32,
     vs: u32,
     value: u32,
-) -> EntryFound
+) -> Result<Option<EntryOut>, FieldError>
     ensures { (s : Site) → entry_outcome s (low w 15) result ≡ entry_of s (register_in w ids vs value) (named (descriptions_of descriptions.now) path_space kind (register_in w ids vs value)) }
 {
     entry_by(fields_of(descriptions, kind, ids, vs), value)

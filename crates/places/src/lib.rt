@@ -5,7 +5,7 @@ ghost use Rattle.std.specs.Prelude.{◌≡◌, ◌≤◌, length};
 ghost use Rattle.survey.specs.Places.{group_at};
 ghost use Rattle.survey.specs.Work.{NextHead};
 
-use survey::Placed;
+use survey::Bounds;
 
 // The first device head from a group's place on, or the length.
 fn next_device(survey: &[u32], from: usize) -> usize
@@ -28,20 +28,23 @@ fn next_device(survey: &[u32], from: usize) -> usize
 }
 
 // Where the group of the device at a place stands: its head up to the next device's head. The words need not be well formed.
-pub fn device_group(survey: &[u32], place: usize) -> Placed
+pub fn device_group(survey: &[u32], place: usize) -> Option<Bounds>
     ensures { result ≡ group_at survey.now place }
 {
     let mut at = next_device(survey, 0);
     let mut k: usize = 0;
     while k < place {
         if survey.len() <= at {
-            return Placed::Nowhere;
+            return None;
         }
         at = next_device(survey, at + 4);
         k += 1;
     }
     if survey.len() <= at {
-        return Placed::Nowhere;
+        return None;
     }
-    Placed::Group(at, next_device(survey, at + 4))
+    Some(Bounds {
+        start: at,
+        end: next_device(survey, at + 4),
+    })
 }

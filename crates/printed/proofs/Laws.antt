@@ -1,4 +1,5 @@
 -- Laws on heads of result words, on lines and tunnels so far, and on what is answered. Assumes nothing.
+use Rattle.std.specs.Prelude.{Err, Ok}
 use Prim.Native.Nat.{ℕ, suc, ◌+◌, ◌/◌, ◌<◌, ◌≤◌}
 use native.Mathlib.Omega.{arith}
 use native.Mathlib.Nat.{add-zero, zero-add}
@@ -14,8 +15,8 @@ use Rattle.refusal.specs.Outcome.{refused, value}
 use Rattle.print.specs.Print.{most, Puts}
 use Rattle.print.proofs.Laws.{capped_in, capped_out, then, nothing, full, long}
 use Rattle.printing.specs.Lines.{kind_of, is_tunnel, is_hop, line_of}
-use Rattle.printed.specs.declared.Printed.TheVariants as printed
-use Rattle.printed.specs.Printed.{parts_of, lines_by, lines_of, one, tunnels_by, tunnels_in, in_room, output_by, printed_outcome, PrintDone}
+use Rattle.printed.specs.Printed.{parts_of, lines_by, lines_of, one, tunnels_by, tunnels_in, in_room, output_by, PrintDone}
+use Rattle.refusal.specs.declared.Refusal.TheVariants as refusal
 
 -- the head that takes one word
 part_plain : (w : ℕ) (rest : List ℕ) → is_hop w ≡ false → parts_of (w ∷ rest) ≡ (w ∷ rest) ∷ parts_of rest
@@ -126,12 +127,12 @@ module _ {s nowhere o : List ℕ} {need : ℕ} (p : Puts nowhere 0 s need o) whe
       go (yes l) = omega (arith, long p, capped_in (length s) (omega arith))
       go (no l) = absurd (omega (arith, long p, capped_out (length s) (omega arith)))
 
-  pub too_long : (output : List ℕ) → most ≤ need → PrintDone s output (printed.Short need) output
-  unfolding in_room output_by printed_outcome
+  pub too_long : (output : List ℕ) → most ≤ need → PrintDone s output (Err (refusal.Short need)) output
+  unfolding in_room output_by
   too_long output h = record { answers = simp (le-leb most (length s) (long_enough h)) (ap (λ n. refused 2 (n ∷ [])) (long p)); writes = refl }
 
-  pub no_room : (output : List ℕ) → need < most → length output < need → PrintDone s output (printed.Short need) output
-  unfolding in_room output_by printed_outcome
+  pub no_room : (output : List ℕ) → need < most → length output < need → PrintDone s output (Err (refusal.Short need)) output
+  unfolding in_room output_by
   no_room output h k = record {
     answers =
         simp (lt-leb most (length s) (omega (arith, exact h)), lt-ltb (length output) (length s) (omega (arith, exact h)))
@@ -139,8 +140,8 @@ module _ {s nowhere o : List ℕ} {need : ℕ} (p : Puts nowhere 0 s need o) whe
     writes = refl;
   }
 
-  pub room : {output output' : List ℕ} {r : ℕ} → need < most → need ≤ length output → Puts output 0 s r output' → PrintDone s output (printed.Bytes need) output'
-  unfolding in_room output_by printed_outcome
+  pub room : {output output' : List ℕ} {r : ℕ} → need < most → need ≤ length output → Puts output 0 s r output' → PrintDone s output (Ok need) output'
+  unfolding in_room output_by
   room {output} h k q = record {
     answers =
         simp (lt-leb most (length s) (omega (arith, exact h)), le-ltb (length output) (length s) (omega (arith, exact h)))

@@ -1,4 +1,5 @@
 -- A printed text is within the buffer that was lent; and how long one is at most. Assumes nothing.
+use Rattle.std.specs.Prelude.{Ok, Result}
 use Prim.Native.Nat.{ℕ, zero, suc, ◌+◌, ◌*◌, ◌/◌, ◌%◌, ◌≤◌, ◌<◌}
 use native.Mathlib.Omega.{arith}
 use mathlib.Core.Path.{◌≡◌, refl, sym, ap, ◌∙◌}
@@ -12,9 +13,10 @@ use Rattle.refusal.specs.Outcome.{refused, value}
 use Rattle.util.specs.Text.{bytes_of}
 use Rattle.print.specs.Print.{digits, decimal, most, capped}
 use Rattle.printing.specs.Lines.{kind_of, is_tunnel, is_hop, type_name, path_name, place_of, in_adapter, out_adapter, tunnel_line, path_line, hop_line, line_of}
-use Rattle.printed.specs.Printed.{parts_of, lines_by, lines_of, total_line, refused_line, in_room, output_by, printed_outcome, PrintDone}
-use Rattle.printed.specs.declared.Printed.{Printed}
-use Rattle.printed.specs.declared.Printed.TheVariants as printed
+use Rattle.printed.specs.Printed.{parts_of, lines_by, lines_of, total_line, refused_line, in_room, output_by, PrintDone}
+use Rattle.refusal.specs.Refusal.{outcome}
+use Rattle.refusal.specs.declared.Refusal.{Refusal}
+use Rattle.refusal.proofs.Laws.{outcome_ok}
 
 -- a text that there is room for
 pub room_bytes : (s : List ℕ) (room n : ℕ) → value n ≡ in_room room s → (length s ≡ n) × (n ≤ room)
@@ -35,9 +37,8 @@ room_short s room n e = go (leb most (length s) || ltb room (length s)) e
     go true f = cc
     go false f = absurd (let z : ◌≡◌ {A = ℕ} 0 1 = cc in omega arith)
 
-pub printed_within : {s output output' : List ℕ} {r : Printed} (n : ℕ) → PrintDone s output r output' → r ≡ printed.Bytes n → n ≤ length output
-unfolding printed_outcome
-printed_within {s} {output} n d e = (room_bytes s (length output) n (sym (ap printed_outcome e) ∙ d.answers)).1
+pub printed_within : {s output output' : List ℕ} {r : (Result ℕ Refusal)} (n : ℕ) → PrintDone s output r output' → r ≡ Ok n → n ≤ length output
+printed_within {s} {output} n d e = (room_bytes s (length output) n (sym (ap outcome e) ∙ d.answers)).1
 
 -- ---- what is printed is short
 
@@ -158,12 +159,8 @@ fits_room s room l m =
     ∙ ap (λ b. cond b (refused 2 (capped (length s) ∷ [])) (value (length s))) (le-ltb room (length s) l)
 
 -- where there is room, all is printed
-pub printed_whole : {s output output' : List ℕ} {r : Printed} → PrintDone s output r output' → length s ≤ length output → length output < most → (r ≡ printed.Bytes (length s)) × (take (length s) output' ≡ s)
-unfolding output_by printed_outcome
+pub printed_whole : {s output output' : List ℕ} {r : (Result ℕ Refusal)} → PrintDone s output r output' → length s ≤ length output → length output < most → (r ≡ Ok (length s)) × (take (length s) output' ≡ s)
+unfolding output_by
 printed_whole {s} {output} {output'} {r} d l m =
-    let e : printed_outcome r ≡ value (length s) = d.answers ∙ fits_room s (length output) l m in
-    (bytes r e, ap (take (length s)) (d.writes ∙ ap (λ o. output_by s o output) e) ∙ take-append_seam s (drop (length s) output))
-  where
-    bytes : (q : Printed) → printed_outcome q ≡ value (length s) → q ≡ printed.Bytes (length s)
-    bytes (printed.Bytes n) f = cc
-    bytes (printed.Short n) f = absurd (let z : ◌≡◌ {A = ℕ} 0 1 = cc in omega arith)
+    let e : outcome r ≡ value (length s) = d.answers ∙ fits_room s (length output) l m in
+    (outcome_ok r (length s) e, ap (take (length s)) (d.writes ∙ ap (λ o. output_by s o output) e) ∙ take-append_seam s (drop (length s) output))

@@ -1,11 +1,11 @@
 -- Document 01, what the program prints of result words, of a number of tunnels and of a refusal. Assumes nothing.
-use Rattle.std.specs.Prelude.{ℕ, ◌+◌, ◌≡◌, Bool, true, false, cond, ◌||◌, List, [], ◌∷◌, ◌++◌, ltb, leb, length, get_or, drop}
+use Rattle.std.specs.Prelude.{ℕ, ◌+◌, ◌≡◌, Bool, true, false, cond, ◌||◌, List, [], ◌∷◌, ◌++◌, ltb, leb, length, get_or, drop, Result}
 use Rattle.refusal.specs.Outcome.{Outcome, refused, value}
 use Rattle.util.specs.Text.{bytes_of}
 use Rattle.print.specs.Print.{decimal, most, capped}
 use Rattle.printing.specs.Lines.{is_tunnel, is_hop, line_of}
-use Rattle.printed.specs.declared.Printed.{Printed}
-use Rattle.printed.specs.declared.Printed.TheVariants as printed
+use Rattle.refusal.specs.Refusal.{outcome}
+use Rattle.refusal.specs.declared.Refusal.{Refusal}
 
 -- result words from each head on: a hop takes two words, a tunnel and a path one
 unfoldable pub parts_of : List ℕ → List (List ℕ)
@@ -50,12 +50,7 @@ unfoldable pub output_by : List ℕ → Outcome ℕ → List ℕ → List ℕ
 output_by s (refused n vs) old = old
 output_by s (value n) old = s ++ drop (length s) old
 
--- document 01's number and values for what is answered
-unfoldable pub printed_outcome : Printed → Outcome ℕ
-printed_outcome (printed.Bytes n) = value n
-printed_outcome (printed.Short n) = refused 2 (n ∷ [])
-
 -- the whole outcome of a call that prints a text
-pub record PrintDone (s output : List ℕ) (r : Printed) (output' : List ℕ) : Type 0 where
-  pub answers : printed_outcome r ≡ in_room (length output) s
-  pub writes : output' ≡ output_by s (printed_outcome r) output
+pub record PrintDone (s output : List ℕ) (r : Result ℕ Refusal) (output' : List ℕ) : Type 0 where
+  pub answers : outcome r ≡ in_room (length output) s
+  pub writes : output' ≡ output_by s (outcome r) output

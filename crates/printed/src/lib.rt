@@ -5,15 +5,7 @@ ghost use Rattle.std.specs.Prelude.{◌<◌, ◌≡◌, ◌∷◌, length, drop}
 ghost use Rattle.print.specs.Print.{Puts};
 ghost use Rattle.printed.specs.Printed.{parts_of, lines_of, tunnels_in, PrintDone};
 
-// How many bytes were written, or the bytes needed (2).
-#[derive(Clone, Copy)]
-pub enum Printed {
-    Bytes(usize),
-    Short(usize),
-}
-
-// No buffer holds a text that long, and longer ones are counted as that long.
-const MOST: usize = 18446744073709551615;
+use refusal::Refusal;
 
 // The place of the head after the one at `i`.
 fn next_head(words: &[u32], i: usize) -> usize
@@ -44,19 +36,20 @@ fn put_lines(words: &[u32], out: &mut [u8]) -> usize
 }
 
 // The lines of result words. On words that are no result each head has its line as far as it can be read.
-pub fn lines(words: &[u32], output: &mut [u8]) -> Printed
+pub fn lines(words: &[u32], output: &mut [u8]) -> Result<usize, Refusal>
     ensures { PrintDone (lines_of words.now) output.old result output.new }
 {
     let mut nowhere = [0u8; 1];
     let need = put_lines(words, &mut nowhere);
-    if MOST <= need {
-        return Printed::Short(need);
+    // No buffer holds a text that long, and longer ones are counted as that long.
+    if need == usize::MAX {
+        return Err(Refusal::Short(need));
     }
     if output.len() < need {
-        return Printed::Short(need);
+        return Err(Refusal::Short(need));
     }
     put_lines(words, output);
-    Printed::Bytes(need)
+    Ok(need)
 }
 
 // How many tunnels result words have.

@@ -1,5 +1,5 @@
 -- Document 01, what the program prints: the lines of result words. Assumes nothing.
-use Rattle.std.specs.Prelude.{ℕ, ◌+◌, ◌/◌, ◌%◌, Bool, cond, List, [], ◌++◌, eqb, get_or}
+use Rattle.std.specs.Prelude.{ℕ, ◌/◌, ◌%◌, Bool, cond, List, [], ◌++◌, eqb, get_or}
 use Rattle.util.specs.Text.{bytes_of}
 use Rattle.print.specs.Print.{decimal}
 

@@ -3,7 +3,7 @@ use Prim.Native.Nat.{ℕ, zero, suc, ◌≤◌, ◌<◌}
 use native.Mathlib.Omega.{arith}
 use mathlib.Core.Path.{◌≡◌, ap, ◌∙◌}
 use mathlib.Core.List.{List, [], ◌∷◌}
-use mathlib.Core.Option.{Option, none, some}
+use Rattle.std.specs.Prelude.{Option, None, Some, Result, Ok, Err}
 use borrow.Author.Tests.{ltb-false}
 use lib.Dec.{ltb}
 use lib.ListN.{length, take, drop}
@@ -12,9 +12,8 @@ use Rattle.refusal.specs.Outcome.{value, bind}
 use Rattle.adapter.specs.Adapter.{AdapterRow}
 use Rattle.tables.specs.Rows.{Rows}
 use Rattle.load.proofs.Order.{Holds, holds_value, holds_refused, holds_bind, holds_any, holds_cond}
-use Rattle.refusals.specs.Told.{refused_as}
+use Rattle.refusal.proofs.Laws.{outcome_ok, not_refused}
 use Rattle.walk.specs.Tables.{rows_of, Tabled}
-use Rattle.walks.proofs.Laws.{refused_value}
 use Rattle.tunnel.specs.Tunnels.{Tunnel}
 use Rattle.tunnel.specs.Words.{tunnels_words}
 use Rattle.discovery.specs.Answers.{discover_at}
@@ -23,17 +22,15 @@ use Rattle.printed.specs.Printed.{in_room}
 use Rattle.printed.proofs.Room.{lines_short, fits_room}
 use Rattle.report.specs.Report.{words_by, answer_of}
 use Rattle.report.specs.Tables.{Fits, page_by, page_at, page_outcome, output_by, Paged}
-use Rattle.report.specs.declared.Page.{Page}
-use Rattle.report.specs.declared.Page.TheVariants as page
-use Rattle.program.specs.Opened.{used_rows, Opens}
+use Rattle.refusal.specs.declared.Refusal.{Refusal}
+use Rattle.program.specs.Opened.{used_rows, tried, Opens}
 use Rattle.program.specs.declared.Opened.{Opened}
-use Rattle.program.specs.declared.OpenAnswer.TheVariants as answer
 use Rattle.program.proofs.Used.{used}
 
 few_words : (o : Option (List Tunnel)) → Holds (λ ws. length ws ≤ 16384) (words_by o)
 unfolding words_by
-few_words none = holds_value (omega arith)
-few_words (some ts) = holds_cond (ltb 16384 (length (tunnels_words ts))) _ _ (λ e. holds_refused) (λ e. holds_value (ltb-false 16384 (length (tunnels_words ts)) e))
+few_words None = holds_value (omega arith)
+few_words (Some ts) = holds_cond (ltb 16384 (length (tunnels_words ts))) _ _ (λ e. holds_refused) (λ e. holds_value (ltb-false 16384 (length (tunnels_words ts)) e))
 
 short_page : (x : Rows) (k : ℕ) (ys : List AdapterRow) → Holds (λ s. length s ≤ 704512) (page_by x k ys)
 unfolding page_by answer_of
@@ -44,22 +41,21 @@ short_page x zero (y ∷ ys) =
 short_page x (suc k) (y ∷ ys) = short_page x k ys
 
 -- on tables in order
-in_order : (en ad ro ma : List ℕ) (k : ℕ) (out : List ℕ) (r : Page) (out' : List ℕ) → Paged en ad ro ma k out r out' → Fits en ad ro → Tabled en ad ro → 704512 ≤ length out → length out < most
-    → (s : List ℕ) → page_at (rows_of en ad ro ma) k ≡ value s → (r ≡ page.Bytes (length s)) × (take (length s) out' ≡ s)
-unfolding page_at page_outcome output_by refused_as bind
+in_order : (en ad ro ma : List ℕ) (k : ℕ) (out : List ℕ) (r : Result (Result ℕ Refusal) Refusal) (out' : List ℕ) → Paged en ad ro ma k out r out' → Fits en ad ro → Tabled en ad ro → 704512 ≤ length out → length out < most
+    → (s : List ℕ) → page_at (rows_of en ad ro ma) k ≡ value s → (r ≡ Ok (Ok (length s))) × (take (length s) out' ≡ s)
+unfolding page_at page_outcome output_by bind
 in_order en ad ro ma k out r out' w f es l m s e =
     let x = rows_of en ad ro ma in
     let q : page_outcome r ≡ value (length s) = w.answers f es ∙ ap (λ o. bind o (in_room (length out))) e ∙ fits_room s (length out) (omega (arith, (short_page x k x.adapters).by s e)) m in
     (bytes r q, ap (take (length s)) (w.writes f es ∙ ap (λ o. output_by (page_outcome r) o out) e ∙ ap (λ o. output_by o (value s) out) q) ∙ take-append_seam s (drop (length s) out))
   where
-    bytes : (p : Page) → page_outcome p ≡ value (length s) → p ≡ page.Bytes (length s)
-    bytes (page.Bytes n) g = cc
-    bytes (page.Short n) g = absurd (refused_value g)
-    bytes (page.Refused n) g = absurd (refused_value g)
+    bytes : (p : Result (Result ℕ Refusal) Refusal) → page_outcome p ≡ value (length s) → p ≡ Ok (Ok (length s))
+    bytes (Ok q) g = ap Ok (outcome_ok q (length s) g)
+    bytes (Err q) g = absurd (not_refused q (length s) g)
 
 -- on the tables of a text
-pub page_written : {t : List ℕ} {o : Opened} {e a d n : ℕ} → Opens t o → o.answer ≡ answer.Tables e a d n
-    → (k : ℕ) (out : List ℕ) (r : Page) (out' : List ℕ) → Paged (take e o.entries) (take a o.adapters) (take d o.routes) (take d o.marks) k out r out' → 704512 ≤ length out → length out < most
-    → (s : List ℕ) → page_at (used_rows o e a d) k ≡ value s → (r ≡ page.Bytes (length s)) × (take (length s) out' ≡ s)
+pub page_written : {t : List ℕ} {o : Opened} {e a d n : ℕ} → Opens t o → o.answer ≡ tried e a d n
+    → (k : ℕ) (out : List ℕ) (r : Result (Result ℕ Refusal) Refusal) (out' : List ℕ) → Paged (take e o.entries) (take a o.adapters) (take d o.routes) (take d o.marks) k out r out' → 704512 ≤ length out → length out < most
+    → (s : List ℕ) → page_at (used_rows o e a d) k ≡ value s → (r ≡ Ok (Ok (length s))) × (take (length s) out' ≡ s)
 unfolding used_rows
 page_written h g k out r out' w l m s p = let u = used h g in in_order _ _ _ _ k out r out' w u.fits u.order l m s p

@@ -1,4 +1,5 @@
 -- With room for 16,384 words no text is short of room: what the text reader answers is the text's survey, or the text's own refusal. Assumes nothing.
+use Rattle.std.specs.Prelude.{Ok, Result}
 use Prim.Native.Nat.{ℕ, ◌≤◌}
 use native.Mathlib.Omega.{arith}
 use mathlib.Core.Path.{◌≡◌, refl, sym, ap, ◌∙◌}
@@ -9,11 +10,11 @@ use lib.ListN.{length, take, drop}
 use lib.Seq.{take-append_seam}
 use Rattle.refusal.specs.Outcome.{Outcome, refused, value, bind}
 use Rattle.grammar.specs.Grammar.{items_of, check_answer}
-use Rattle.text.specs.Text.{sections_of, survey_words, survey_of, in_room, output_by, text_outcome, TextDone}
-use Rattle.text.specs.declared.TextAnswer.{TextAnswer}
-use Rattle.text.specs.declared.TextAnswer.TheVariants as answer
+use Rattle.text.specs.Text.{sections_of, survey_words, survey_of, in_room, output_by, TextDone}
 use Rattle.text.proofs.Counting.{taken}
 use Rattle.walks.proofs.Laws.{refused_value}
+use Rattle.refusal.specs.Refusal.{outcome}
+use Rattle.refusal.specs.declared.Refusal.{Refusal}
 
 limit : (t ws : List ℕ) → survey_of t ≡ value ws → length ws ≤ 16384
 unfolding survey_of bind
@@ -32,8 +33,8 @@ module _ (t output : List ℕ) (l : length output ≡ 16384) where
   unfolding output_by
   written ws e = ap (λ b. cond b output (ws ++ drop (length ws) output)) (le-ltb (length output) (length ws) (omega (arith, limit t ws e)))
 
-  module _ (r : TextAnswer) (output' : List ℕ) (d : TextDone t output r output') where
-    pub text_refused : (n : ℕ) (vs : List ℕ) → text_outcome r ≡ refused n vs → survey_of t ≡ refused n vs
+  module _ (r : Result ℕ Refusal) (output' : List ℕ) (d : TextDone t output r output') where
+    pub text_refused : (n : ℕ) (vs : List ℕ) → outcome r ≡ refused n vs → survey_of t ≡ refused n vs
     unfolding bind
     text_refused n vs e = go (survey_of t) refl (sym e ∙ d.answers)
       where
@@ -42,9 +43,9 @@ module _ (t output : List ℕ) (l : length output ≡ 16384) where
         go (value ws) f q = absurd (refused_value (q ∙ in_room_lem ws f))
 
     -- the words that are answered are the survey
-    pub text_words : (n : ℕ) → r ≡ answer.Words n → (survey_of t ≡ value (take n output')) × (n ≤ 16384)
-    unfolding bind text_outcome
-    text_words n e = go (survey_of t) refl (sym (ap text_outcome e) ∙ d.answers) d.writes
+    pub text_words : (n : ℕ) → r ≡ Ok n → (survey_of t ≡ value (take n output')) × (n ≤ 16384)
+    unfolding bind
+    text_words n e = go (survey_of t) refl (sym (ap outcome e) ∙ d.answers) d.writes
       where
         go : (o : Outcome (List ℕ)) → survey_of t ≡ o → value n ≡ bind o (in_room (length output)) → output' ≡ output_by o output → (o ≡ value (take n output')) × (n ≤ 16384)
         go (refused m us) f q w = absurd (refused_value (sym q))

@@ -1,7 +1,8 @@
 -- Document 01's worked input, as text, and what is printed of it, by the definitions. Assumes nothing.
+use Rattle.std.specs.Option.{option_to_list}
 use Prim.Native.Nat.{ℕ}
 use mathlib.Core.Path.{◌≡◌, refl, ap, ◌∙◌}
-use mathlib.Core.List.{List, Option-to_list}
+use mathlib.Core.List.{List}
 use Rattle.refusal.specs.Outcome.{value, bind}
 use Rattle.util.specs.Number.{digit_of, after_prefix, after_plus, value_of, are_digits, number_of, hex_number, decimal_number}
 use Rattle.util.specs.Text.{bytes_of}
@@ -50,7 +51,7 @@ survey_read = refl
 
 -- each of the five adapters is tried
 pub reported : report_of example_rows ≡ value output
-unfolding output bytes_of words_by answer_of answers_of total_of pages_of report_of discover_at asked_adapter is_enabled is_protocol min_hop at path leaving or_absent needed tunnel_of or_none dma alone down_and_up of_kind discover last_of entry plain_row router_row example_rows bind present asked_device entry_in adapter_in device_in is_router router_from used_bytes depth_of upstream_route downstream_route adapter_beneath downstream_adapter is_upstream route_or upstream_route_of downstream_route_of is_lane adapter_site stand_by stand_at up_by arrive_up down_by arrive_down to_device to_router to_route leads_from leads_by leads turn_by walk_on walk_n hops_n hop_at onward made turned arrive found Option-to_list settled walk_from path_of tunnels_words tunnel_words tunnel_word closed closed_by last_path back_to paths_words path_words hops_words hop_words digits decimal kind_of is_tunnel is_hop type_name path_name place_of in_adapter out_adapter tunnel_line path_line hop_line line_of parts_of lines_by lines_of one tunnels_by tunnels_in total_line
+unfolding output bytes_of words_by answer_of answers_of total_of pages_of report_of discover_at asked_adapter is_enabled is_protocol min_hop at path leaving or_absent needed tunnel_of or_none dma alone down_and_up of_kind discover last_of entry plain_row router_row example_rows bind present asked_device entry_in adapter_in device_in is_router router_from used_bytes depth_of upstream_route downstream_route adapter_beneath downstream_adapter is_upstream route_or upstream_route_of downstream_route_of is_lane adapter_site stand_by stand_at up_by arrive_up down_by arrive_down to_device to_router to_route leads_from leads_by leads turn_by walk_on walk_n hops_n hop_at onward made turned arrive found settled walk_from path_of tunnels_words tunnel_words tunnel_word closed closed_by last_path back_to paths_words path_words hops_words hop_words digits decimal kind_of is_tunnel is_hop type_name path_name place_of in_adapter out_adapter tunnel_line path_line hop_line line_of parts_of lines_by lines_of one tunnels_by tunnels_in total_line
 reported = refl
 
 pub worked : program_of input ≡ output

@@ -3,33 +3,30 @@ use Prim.Native.Nat.{ℕ, ◌<◌}
 use mathlib.Core.Bool.{Bool, true, false, cond}
 use mathlib.Core.Path.{◌≡◌, refl, sym, ap, ◌∙◌}
 use mathlib.Core.List.{List}
-use mathlib.Core.Option.{Option, none, some}
+use Rattle.std.specs.Prelude.{Option, None, Some, Err, Ok, Result}
 use native.Mathlib.Omega.{arith}
 use Rattle.refusal.specs.Outcome.{Outcome, refused, value, bind}
 use Rattle.route.specs.Route.{downstream_adapter}
-use Rattle.route.specs.declared.AdapterFound.{AdapterFound}
-use Rattle.route.specs.declared.AdapterFound.TheVariants as found
 use Rattle.adapter.specs.Adapter.{AdapterRow, min_hop}
 use Rattle.tables.specs.Rows.{EntryRow, DeviceRow, Rows, adapter_in, device_in}
-use Rattle.load.specs.Answers.{refused_by}
-use Rattle.load.specs.declared.Refusal.{Refusal}
-use Rattle.load.proofs.Result.{refused_bind}
+use Rattle.refusal.specs.Refusal.{refused_by}
+use Rattle.refusal.specs.declared.Refusal.{Refusal}
+use Rattle.refusal.proofs.Laws.{refused_bind}
 use Rattle.fabric.specs.Tables.{rows_with, InOrder}
 use Rattle.fabric.proofs.Laws.{device_fits}
-use Rattle.parents.specs.Parents.{parent_of, parent_outcome}
-use Rattle.parents.specs.declared.ParentAnswer.{ParentAnswer}
-use Rattle.parents.specs.declared.ParentAnswer.TheVariants as parent
+use Rattle.parents.specs.Parents.{parent_of}
 use Rattle.receive.specs.Receive.{Lane, Lane.lane, Lane.passed, Lane.dropped, or_dropped, hops_of, beneath, under_router, under_parent, taken, lane_of}
 use Rattle.receive.specs.Work.{lane_by, lane_at}
+use Rattle.refusal.specs.Refusal.{outcome}
 
 -- ---- the HopIDs of an adapter
 
 module _ (q : ℕ) (y : AdapterRow) where
-  pub no_least : none ≡ min_hop y.kind → value dropped ≡ hops_of q y
+  pub no_least : None ≡ min_hop y.kind → value dropped ≡ hops_of q y
   unfolding hops_of or_dropped
   no_least e = ap (λ (o : Option ℕ). or_dropped o (λ lo. bind y.max_hop (λ m. or_dropped m (λ hi. value (lane q y.number lo hi))))) e
 
-  pub with_least : (lo : ℕ) (o : Outcome (Option ℕ)) → some lo ≡ min_hop y.kind → o ≡ y.max_hop → bind o (λ m. or_dropped m (λ hi. value (lane q y.number lo hi))) ≡ hops_of q y
+  pub with_least : (lo : ℕ) (o : Outcome (Option ℕ)) → Some lo ≡ min_hop y.kind → o ≡ y.max_hop → bind o (λ m. or_dropped m (λ hi. value (lane q y.number lo hi))) ≡ hops_of q y
   unfolding hops_of or_dropped
   with_least lo o e g =
       ap (λ (z : Outcome (Option ℕ)). bind z (λ m. or_dropped m (λ hi. value (lane q y.number lo hi)))) g
@@ -38,23 +35,23 @@ module _ (q : ℕ) (y : AdapterRow) where
 -- ---- a device's
 
 -- no router, and the adapter beneath which it hangs
-pub no_router : (x : Rows) (d : DeviceRow) (q : ℕ) → none ≡ device_in x.devices q → value passed ≡ under_router x d q (device_in x.devices q)
+pub no_router : (x : Rows) (d : DeviceRow) (q : ℕ) → None ≡ device_in x.devices q → value passed ≡ under_router x d q (device_in x.devices q)
 unfolding under_router
 no_router x d q e = ap (under_router x d q) e
 
-pub beneath_by : (x : Rows) (d e : DeviceRow) (q : ℕ) (a b : AdapterFound) → some e ≡ device_in x.devices q → a ≡ downstream_adapter e.domain e.route d.domain d.route → a ≡ b → beneath x q b ≡ under_router x d q (device_in x.devices q)
+pub beneath_by : (x : Rows) (d e : DeviceRow) (q : ℕ) (a b : Option ℕ) → Some e ≡ device_in x.devices q → a ≡ downstream_adapter e.domain e.route d.domain d.route → a ≡ b → beneath x q b ≡ under_router x d q (device_in x.devices q)
 unfolding under_router
 beneath_by x d e q a b f g h = ap (beneath x q) (sym h ∙ g) ∙ ap (under_router x d q) f
 
-pub beneath_at : (x : Rows) (q n : ℕ) (o : Option AdapterRow) → o ≡ adapter_in x.adapters q n → or_dropped o (hops_of q) ≡ beneath x q (found.Adapter n)
+pub beneath_at : (x : Rows) (q n : ℕ) (o : Option AdapterRow) → o ≡ adapter_in x.adapters q n → or_dropped o (hops_of q) ≡ beneath x q (Some n)
 unfolding beneath
 beneath_at x q n o e = ap (λ (z : Option AdapterRow). or_dropped z (hops_of q)) e
 
-pub lane_nowhere : (x : Rows) (p : ℕ) → none ≡ device_in x.devices p → value passed ≡ lane_at x p
+pub lane_nowhere : (x : Rows) (p : ℕ) → None ≡ device_in x.devices p → value passed ≡ lane_at x p
 unfolding lane_at lane_by
 lane_nowhere x p e = ap (lane_by x p) e
 
-module _ (x : Rows) (p : ℕ) (d : DeviceRow) (at : some d ≡ device_in x.devices p) where
+module _ (x : Rows) (p : ℕ) (d : DeviceRow) (at : Some d ≡ device_in x.devices p) where
   pub lane_left : taken d ≡ false → value passed ≡ lane_at x p
   unfolding lane_at lane_by lane_of
   lane_left e = ap (λ (b : Bool). cond b (bind (parent_of x p d) (under_parent x d)) (value passed)) (sym e) ∙ ap (lane_by x p) at
@@ -63,27 +60,26 @@ module _ (x : Rows) (p : ℕ) (d : DeviceRow) (at : some d ≡ device_in x.devic
   unfolding lane_at lane_by lane_of
   lane_taken e = ap (λ (b : Bool). cond b (bind (parent_of x p d) (under_parent x d)) (value passed)) (sym e) ∙ ap (lane_by x p) at
 
-  module _ (t : taken d ≡ true) (a : ParentAnswer) (e : parent_outcome a ≡ parent_of x p d) where
-    lane_by_lem : bind (parent_outcome a) (under_parent x d) ≡ lane_at x p
+  module _ (t : taken d ≡ true) (a : Result (Option ℕ) Refusal) (e : outcome a ≡ parent_of x p d) where
+    lane_by_lem : bind (outcome a) (under_parent x d) ≡ lane_at x p
     lane_by_lem = ap (λ (o : Outcome (Option ℕ)). bind o (under_parent x d)) e ∙ lane_taken t
 
-    pub lane_refused : (r : Refusal) → a ≡ parent.Refused r → refused_by r ≡ lane_at x p
-    unfolding parent_outcome
-    lane_refused r g = sym (refused_bind r (under_parent x d)) ∙ ap (λ (b : ParentAnswer). bind (parent_outcome b) (under_parent x d)) (sym g) ∙ lane_by_lem
+    pub lane_refused : (r : Refusal) → a ≡ Err r → refused_by r ≡ lane_at x p
+    lane_refused r g = sym (refused_bind r (under_parent x d)) ∙ ap (λ (b : Result (Option ℕ) Refusal). bind (outcome b) (under_parent x d)) (sym g) ∙ lane_by_lem
 
-    pub lane_alone : a ≡ parent.None → value passed ≡ lane_at x p
-    unfolding parent_outcome bind under_parent
-    lane_alone g = ap (λ (b : ParentAnswer). bind (parent_outcome b) (under_parent x d)) (sym g) ∙ lane_by_lem
+    pub lane_alone : a ≡ (Ok None) → value passed ≡ lane_at x p
+    unfolding bind under_parent
+    lane_alone g = ap (λ (b : Result (Option ℕ) Refusal). bind (outcome b) (under_parent x d)) (sym g) ∙ lane_by_lem
 
-    pub lane_under : (q : ℕ) → a ≡ parent.Place q → {o : Outcome Lane} → o ≡ under_router x d q (device_in x.devices q) → o ≡ lane_at x p
-    unfolding parent_outcome bind under_parent
-    lane_under q g f = f ∙ ap (λ (b : ParentAnswer). bind (parent_outcome b) (under_parent x d)) (sym g) ∙ lane_by_lem
+    pub lane_under : (q : ℕ) → a ≡ Ok (Some q) → {o : Outcome Lane} → o ≡ under_router x d q (device_in x.devices q) → o ≡ lane_at x p
+    unfolding bind under_parent
+    lane_under q g f = f ∙ ap (λ (b : Result (Option ℕ) Refusal). bind (outcome b) (under_parent x d)) (sym g) ∙ lane_by_lem
 
 -- ---- there is a router
 
 -- the router of a lane that comes of it is there
 abbrev Stands : List DeviceRow → Outcome Lane → Type 0
-Stands ds o = (q n lo hi : ℕ) → o ≡ value (lane q n lo hi) → (e : DeviceRow) × (some e ≡ device_in ds q)
+Stands ds o = (q n lo hi : ℕ) → o ≡ value (lane q n lo hi) → (e : DeviceRow) × (Some e ≡ device_in ds q)
 
 module _ (ds : List DeviceRow) where
   stands_refused : (k : ℕ) (vs : List ℕ) → Stands ds (refused k vs)
@@ -95,13 +91,13 @@ module _ (ds : List DeviceRow) where
   stands_passed : Stands ds (value passed)
   stands_passed q n lo hi e = absurd (let z : ◌≡◌ {A = ℕ} 0 1 = cc in omega arith)
 
-  stands_lane : (r m k l : ℕ) (y : DeviceRow) → some y ≡ device_in ds r → Stands ds (value (lane r m k l))
+  stands_lane : (r m k l : ℕ) (y : DeviceRow) → Some y ≡ device_in ds r → Stands ds (value (lane r m k l))
   stands_lane r m k l y g q n lo hi e = (y, g ∙ ap (device_in ds) (let z : r ≡ q = cc in z))
 
   stands_or : {A : Type 0} (o : Option A) (f : A → Outcome Lane) → ((a : A) → Stands ds (f a)) → Stands ds (or_dropped o f)
   unfolding or_dropped
-  stands_or none f g = stands_dropped
-  stands_or (some a) f g = g a
+  stands_or None f g = stands_dropped
+  stands_or (Some a) f g = g a
 
   stands_bind : {A : Type 0} (o : Outcome A) (f : A → Outcome Lane) → ((a : A) → Stands ds (f a)) → Stands ds (bind o f)
   unfolding bind
@@ -109,20 +105,20 @@ module _ (ds : List DeviceRow) where
   stands_bind (value a) f g = g a
 
 module _ (x : Rows) where
-  stands_beneath : (q : ℕ) (y : DeviceRow) → some y ≡ device_in x.devices q → (a : AdapterFound) → Stands x.devices (beneath x q a)
+  stands_beneath : (q : ℕ) (y : DeviceRow) → Some y ≡ device_in x.devices q → (a : Option ℕ) → Stands x.devices (beneath x q a)
   unfolding beneath hops_of
-  stands_beneath q y g found.None = stands_passed _
-  stands_beneath q y g (found.Adapter n) = stands_or _ _ _ (λ z. stands_or _ _ _ (λ lo. stands_bind _ _ _ (λ m. stands_or _ _ _ (λ hi. stands_lane _ q _ _ _ y g))))
+  stands_beneath q y g None = stands_passed _
+  stands_beneath q y g (Some n) = stands_or _ _ _ (λ z. stands_or _ _ _ (λ lo. stands_bind _ _ _ (λ m. stands_or _ _ _ (λ hi. stands_lane _ q _ _ _ y g))))
 
   stands_router : (d : DeviceRow) (q : ℕ) (o : Option DeviceRow) → o ≡ device_in x.devices q → Stands x.devices (under_router x d q o)
   unfolding under_router
-  stands_router d q none g = stands_passed _
-  stands_router d q (some y) g = stands_beneath q y g _
+  stands_router d q None g = stands_passed _
+  stands_router d q (Some y) g = stands_beneath q y g _
 
   stands_parent : (d : DeviceRow) (o : Option ℕ) → Stands x.devices (under_parent x d o)
   unfolding under_parent
-  stands_parent d none = stands_passed _
-  stands_parent d (some q) = stands_router d q _ refl
+  stands_parent d None = stands_passed _
+  stands_parent d (Some q) = stands_router d q _ refl
 
   stands_cond : (b : Bool) (o : Outcome Lane) → Stands x.devices o → Stands x.devices (cond b o (value passed))
   stands_cond true o g = g
@@ -130,8 +126,8 @@ module _ (x : Rows) where
 
   stands_by : (p : ℕ) (o : Option DeviceRow) → Stands x.devices (lane_by x p o)
   unfolding lane_by lane_of
-  stands_by p none = stands_passed _
-  stands_by p (some d) = stands_cond (taken d) _ (stands_bind _ (parent_of x p d) _ (stands_parent d))
+  stands_by p None = stands_passed _
+  stands_by p (Some d) = stands_cond (taken d) _ (stands_bind _ (parent_of x p d) _ (stands_parent d))
 
 -- in tables in order, its place fits a key
 pub lane_fits : (es : List EntryRow) (ad ro ma : List ℕ) (p q n lo hi : ℕ) → InOrder ad ro → value (lane q n lo hi) ≡ lane_at (rows_with es ad ro ma) p → q < 65536

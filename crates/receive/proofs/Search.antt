@@ -3,7 +3,8 @@ use Prim.Native.Nat.{ℕ, zero, suc, ◌+◌, ◌*◌, ◌-◌, ◌/◌, ◌%◌
 use mathlib.Core.Path.{◌≡◌, refl, sym, ap, ◌∙◌, subst}
 use mathlib.Core.Bool.{Bool, cond, true≢false}
 use mathlib.Core.List.{List, [], ◌∷◌, ◌++◌}
-use mathlib.Core.Option.{Option, none, some, none-ne-some}
+use Rattle.std.specs.Prelude.{Option, None, Some, Result, Ok, Err}
+use Rattle.std.proofs.lemmas.Option.{none-some}
 use native.Mathlib.Omega.{arith}
 use native.Mathlib.Decide.{dec_lt}
 use native.Mathlib.Numerals.{add-one}
@@ -15,34 +16,35 @@ use Rattle.refusal.specs.Outcome.{Outcome, value, bind}
 use Rattle.tables.specs.Rows.{DeviceRow, Rows, device_in}
 use Rattle.tables.specs.Packed.{entries_in}
 use Rattle.tables.proofs.Laws.{device_past_routes}
-use Rattle.load.specs.declared.Refusal.{Refusal}
-use Rattle.load.proofs.Result.{refused_bind}
+use Rattle.refusal.specs.declared.Refusal.{Refusal}
+use Rattle.refusal.proofs.Laws.{refused_bind}
 use Rattle.fabric.specs.Tables.{rows_with, InOrder}
 use Rattle.walk.specs.Tables.{rows_of, Tabled}
 use Rattle.walk.specs.Walking.{Stand}
 use Rattle.receive.specs.Receive.{at, Lane, lane_of, Receive, Receive.nothing, among_hops, at_lane, or_next, among_devices, receive}
-use Rattle.receive.specs.Tables.{Said, said_of, received_outcome, hops_by, note_stand, note_ring, walk_said, by_notes, Searches}
+use Rattle.receive.specs.Tables.{Said, said_of, received_outcome, hops_by, note_stand, note_ring, walk_said, by_notes, is_path, Searches}
 use Rattle.receive.specs.Work.{lane_outcome, LaneIs, lane_by, lane_at, said, up_to, Stepped, end_hops, Looked, PutNote}
 use Rattle.receive.specs.declared.LaneFound.{LaneFound}
 use Rattle.receive.specs.declared.LaneFound.TheVariants as found
 use Rattle.receive.specs.declared.Received.{Received}
 use Rattle.receive.specs.declared.Received.TheVariants as answer
+use Rattle.receive.specs.declared.ReceivePath.{ReceivePath}
 use Rattle.receive.specs.declared.Step.{Step}
 use Rattle.receive.specs.declared.Step.TheVariants as step
 use Rattle.receive.proofs.Lanes.{lane_fits}
 
 -- ---- the devices from a place on
 
-drop_there : (ds : List DeviceRow) (i : ℕ) (d : DeviceRow) → device_in ds i ≡ some d → drop i ds ≡ d ∷ drop (suc i) ds
+drop_there : (ds : List DeviceRow) (i : ℕ) (d : DeviceRow) → device_in ds i ≡ Some d → drop i ds ≡ d ∷ drop (suc i) ds
 unfolding device_in
-drop_there [] i d e = absurd (none-ne-some d e)
+drop_there [] i d e = absurd (none-some d e)
 drop_there (y ∷ ds) zero d e = ap (λ (z : DeviceRow). z ∷ ds) (let z : y ≡ d = cc in z)
 drop_there (y ∷ ds) (suc i) d e = drop_there ds i d e
 
-drop_past : (ds : List DeviceRow) (i : ℕ) → device_in ds i ≡ none → drop i ds ≡ []
+drop_past : (ds : List DeviceRow) (i : ℕ) → device_in ds i ≡ None → drop i ds ≡ []
 unfolding device_in
 drop_past [] i e = drop-nil i
-drop_past (y ∷ ds) zero e = absurd (none-ne-some y (sym e))
+drop_past (y ∷ ds) zero e = absurd (none-some y (sym e))
 drop_past (y ∷ ds) (suc i) e = drop_past ds i e
 
 -- what is left to search
@@ -54,17 +56,17 @@ module _ (x : Rows) (ring i : ℕ) where
   unfolding among_devices
   left_none j e = ap (among_devices x ring j) e
 
-  pub left_past : none ≡ device_in x.devices i → left x ring i ≡ value nothing
+  pub left_past : None ≡ device_in x.devices i → left x ring i ≡ value nothing
   left_past e = left_none i (drop_past x.devices i (sym e))
 
   -- the lane of the device at the place, and then the devices after it
-  step_none : device_in x.devices i ≡ none → left x ring i ≡ bind (bind (lane_by x i none) (at_lane x ring)) (or_next (left x ring (i + 1)))
+  step_none : device_in x.devices i ≡ None → left x ring i ≡ bind (bind (lane_by x i None) (at_lane x ring)) (or_next (left x ring (i + 1)))
   unfolding lane_by bind at_lane or_next
   step_none e =
       let d = drop_past x.devices i e in
       left_none i d ∙ sym (left_none (i + 1) (sym (drop-drop 1 i x.devices) ∙ ap (drop 1) d))
 
-  step_some : (d : DeviceRow) → device_in x.devices i ≡ some d → left x ring i ≡ bind (bind (lane_by x i (some d)) (at_lane x ring)) (or_next (left x ring (i + 1)))
+  step_some : (d : DeviceRow) → device_in x.devices i ≡ Some d → left x ring i ≡ bind (bind (lane_by x i (Some d)) (at_lane x ring)) (or_next (left x ring (i + 1)))
   unfolding among_devices lane_by
   step_some d e =
       ap (among_devices x ring i) (drop_there x.devices i d e)
@@ -75,8 +77,8 @@ module _ (x : Rows) (ring i : ℕ) where
   left_step = go (device_in x.devices i) refl
     where
       go : (o : Option DeviceRow) → device_in x.devices i ≡ o → left x ring i ≡ bind (bind (lane_by x i o) (at_lane x ring)) (or_next (left x ring (i + 1)))
-      go none e = step_none e
-      go (some d) e = step_some d e
+      go None e = step_none e
+      go (Some d) e = step_some d e
 
 in_order : {en ad ro : List ℕ} → Tabled en ad ro → InOrder ad ro
 in_order t = record { adapters = t.adapter_order; devices = t.devices }
@@ -141,15 +143,13 @@ written_more ring ws noted notes w noted' notes' x n p = go (dec_lt noted (lengt
         }
 
 -- nothing is found yet, and for each ring the notes and then the devices from place i on give the whole
-pub record Seeking (en ad ro ma : List ℕ) (ring i : ℕ) (r : Received) (noted : ℕ) (notes : List ℕ) : Type 0 where
-  pub empty : r ≡ answer.Nothing
+pub record Seeking (en ad ro ma : List ℕ) (ring i : ℕ) (noted : ℕ) (notes : List ℕ) : Type 0 where
   pub ws : List ℕ
   pub written : Written ring ws noted notes
   pub whole : Tabled en ad ro → (v : ℕ) → said (receive (rows_of en ad ro ma) v) ≡ by_notes (rows_of en ad ro ma) v ws (said (left (rows_of en ad ro ma) v i))
 
 -- nothing is found yet, and HopIDs h to hi of adapter n of the router at place q give the whole after the notes, with the devices after place i
-pub record Among (en ad ro ma : List ℕ) (ring i q n h hi : ℕ) (r : Received) (noted : ℕ) (notes : List ℕ) : Type 0 where
-  pub empty : r ≡ answer.Nothing
+pub record Among (en ad ro ma : List ℕ) (ring i q n h hi : ℕ) (noted : ℕ) (notes : List ℕ) : Type 0 where
   pub fits : Tabled en ad ro → q < 65536
   pub ws : List ℕ
   pub written : Written ring ws noted notes
@@ -157,7 +157,7 @@ pub record Among (en ad ro ma : List ℕ) (ring i q n h hi : ℕ) (r : Received)
 
 module _ (en ad ro ma : List ℕ) (ring : ℕ) where
   -- what is answered is the rest of the search for each ring
-  ends : (a : Received) (ws : List ℕ) (noted : ℕ) (notes : List ℕ) → Written ring ws noted notes → hops_by a ≤ length en → (Tabled en ad ro → (v : ℕ) → said (receive (rows_of en ad ro ma) v) ≡ by_notes (rows_of en ad ro ma) v ws (received_outcome v a))
+  ends : (a : Result Received Refusal) (ws : List ℕ) (noted : ℕ) (notes : List ℕ) → Written ring ws noted notes → hops_by a ≤ length en → (Tabled en ad ro → (v : ℕ) → said (receive (rows_of en ad ro ma) v) ≡ by_notes (rows_of en ad ro ma) v ws (received_outcome v a))
       → Searches (length notes) en ad ro ma ring a noted notes
   ends a ws noted notes w few whole = record {
     comes = record { answers = λ t. sym (whole t ring ∙ notes_none (rows_of en ad ro ma) ring ws (received_outcome ring a) w.others); few = few };
@@ -166,96 +166,92 @@ module _ (en ad ro ma : List ℕ) (ring : ℕ) where
   }
 
   -- the room is the list's length
-  pub in_room_lem : {room noted : ℕ} {a : Received} {notes : List ℕ} → Searches (length notes) en ad ro ma ring a noted notes → length notes ≡ room → Searches room en ad ro ma ring a noted notes
+  pub in_room_lem : {room noted : ℕ} {a : Result Received Refusal} {notes : List ℕ} → Searches (length notes) en ad ro ma ring a noted notes → length notes ≡ room → Searches room en ad ro ma ring a noted notes
   in_room_lem {noted = noted} {a = a} {notes = notes} s e = subst (λ (n : ℕ). Searches n en ad ro ma ring a noted notes) e s
 
-  pub seek_start : (notes : List ℕ) → Seeking en ad ro ma ring 0 answer.Nothing 0 notes
+  pub seek_start : (notes : List ℕ) → Seeking en ad ro ma ring 0 0 notes
   unfolding receive by_notes Others
-  seek_start notes = record { empty = refl; ws = []; written = record { others = omega arith; kept = λ l. refl; within = omega arith }; whole = λ t v. refl }
+  seek_start notes = record { ws = []; written = record { others = omega arith; kept = λ l. refl; within = omega arith }; whole = λ t v. refl }
 
-  module _ {i : ℕ} {r : Received} {noted : ℕ} {notes : List ℕ} (s : Seeking en ad ro ma ring i r noted notes) where
-    pub seek_end : length ro ≤ i → Searches (length notes) en ad ro ma ring r noted notes
+  module _ {i : ℕ} {noted : ℕ} {notes : List ℕ} (s : Seeking en ad ro ma ring i noted notes) where
+    pub seek_end : length ro ≤ i → Searches (length notes) en ad ro ma ring (Ok answer.Nothing) noted notes
     unfolding received_outcome hops_by bind said_of rows_of rows_with
-    seek_end l = subst (λ a. Searches (length notes) en ad ro ma ring a noted notes) (sym s.empty) (ends answer.Nothing s.ws noted notes s.written (omega arith) (λ t v.
-        s.whole t v ∙ ap (λ (o : Outcome Receive). by_notes (rows_of en ad ro ma) v s.ws (said o)) (left_past (rows_of en ad ro ma) v i (device_past_routes 0 ro ma i l))))
+    seek_end l = ends (Ok answer.Nothing) s.ws noted notes s.written (omega arith) (λ t v.
+        s.whole t v ∙ ap (λ (o : Outcome Receive). by_notes (rows_of en ad ro ma) v s.ws (said o)) (left_past (rows_of en ad ro ma) v i (device_past_routes 0 ro ma i l)))
 
     -- by the lane of the device at place i
-    module _ {u : LaneFound} (is : LaneIs ad ro ma (λ x. lane_at x i) u) where
-      lane_is : (f : LaneFound) → u ≡ f → Tabled en ad ro → lane_outcome f ≡ lane_at (rows_of en ad ro ma) i
+    module _ {u : Result LaneFound Refusal} (is : LaneIs ad ro ma (λ x. lane_at x i) u) where
+      lane_is : (f : Result LaneFound Refusal) → u ≡ f → Tabled en ad ro → lane_outcome f ≡ lane_at (rows_of en ad ro ma) i
       unfolding rows_of
       lane_is f e t = ap lane_outcome (sym e) ∙ is.is (in_order t) (entries_in en)
 
-      seek_lane : (f : LaneFound) → u ≡ f → Tabled en ad ro → (v : ℕ) → said (receive (rows_of en ad ro ma) v) ≡ by_notes (rows_of en ad ro ma) v s.ws (said (bind (bind (lane_outcome f) (at_lane (rows_of en ad ro ma) v)) (or_next (left (rows_of en ad ro ma) v (i + 1)))))
+      seek_lane : (f : Result LaneFound Refusal) → u ≡ f → Tabled en ad ro → (v : ℕ) → said (receive (rows_of en ad ro ma) v) ≡ by_notes (rows_of en ad ro ma) v s.ws (said (bind (bind (lane_outcome f) (at_lane (rows_of en ad ro ma) v)) (or_next (left (rows_of en ad ro ma) v (i + 1)))))
       seek_lane f e t v =
           s.whole t v
           ∙ ap (λ (o : Outcome Receive). by_notes (rows_of en ad ro ma) v s.ws (said o)) (left_step (rows_of en ad ro ma) v i)
           ∙ ap (λ (o : Outcome Lane). by_notes (rows_of en ad ro ma) v s.ws (said (bind (bind o (at_lane (rows_of en ad ro ma) v)) (or_next (left (rows_of en ad ro ma) v (i + 1)))))) (sym (lane_is f e t))
 
-      pub seek_refused : (a : Refusal) → u ≡ found.Refused a → Searches (length notes) en ad ro ma ring (answer.Refused a) noted notes
+      pub seek_refused : (a : Refusal) → u ≡ Err a → Searches (length notes) en ad ro ma ring (Err a) noted notes
       unfolding received_outcome hops_by lane_outcome
-      seek_refused a e = ends (answer.Refused a) s.ws noted notes s.written (omega arith) (λ t v.
-          seek_lane (found.Refused a) e t v
+      seek_refused a e = ends (Err a) s.ws noted notes s.written (omega arith) (λ t v.
+          seek_lane (Err a) e t v
           ∙ ap (λ (o : Outcome Receive). by_notes (rows_of en ad ro ma) v s.ws (said (bind o (or_next (left (rows_of en ad ro ma) v (i + 1)))))) (refused_bind a (at_lane (rows_of en ad ro ma) v))
           ∙ ap (λ (o : Outcome Receive). by_notes (rows_of en ad ro ma) v s.ws (said o)) (refused_bind a (or_next (left (rows_of en ad ro ma) v (i + 1))))
           ∙ ap (λ (o : Outcome Said). by_notes (rows_of en ad ro ma) v s.ws o) (refused_bind a (λ y. value (said_of y))))
 
-      pub seek_lost : u ≡ found.Dropped → Searches (length notes) en ad ro ma ring answer.Lost noted notes
+      pub seek_lost : u ≡ (Ok found.Dropped) → Searches (length notes) en ad ro ma ring (Ok answer.Lost) noted notes
       unfolding received_outcome hops_by lane_outcome bind at_lane or_next said_of
-      seek_lost e = ends answer.Lost s.ws noted notes s.written (omega arith) (λ t v. seek_lane found.Dropped e t v)
+      seek_lost e = ends (Ok answer.Lost) s.ws noted notes s.written (omega arith) (λ t v. seek_lane (Ok found.Dropped) e t v)
 
-      pub seek_passed : u ≡ found.Passed → Seeking en ad ro ma ring (i + 1) r noted notes
+      pub seek_passed : u ≡ (Ok found.Passed) → Seeking en ad ro ma ring (i + 1) noted notes
       unfolding lane_outcome bind at_lane or_next
-      seek_passed e = record { empty = s.empty; ws = s.ws; written = s.written; whole = λ t v. seek_lane found.Passed e t v }
+      seek_passed e = record { ws = s.ws; written = s.written; whole = λ t v. seek_lane (Ok found.Passed) e t v }
 
-      pub seek_at : (q n lo hi : ℕ) → u ≡ found.At q n lo hi → Among en ad ro ma ring i q n lo hi r noted notes
+      pub seek_at : (q n lo hi : ℕ) → u ≡ Ok (found.At q n lo hi) → Among en ad ro ma ring i q n lo hi noted notes
       unfolding lane_outcome bind at_lane up_to rows_of
       seek_at q n lo hi e = record {
-        empty = s.empty;
-        fits = λ t. lane_fits (entries_in en) ad ro ma i q n lo hi (in_order t) (lane_is (found.At q n lo hi) e t);
+        fits = λ t. lane_fits (entries_in en) ad ro ma i q n lo hi (in_order t) (lane_is (Ok (found.At q n lo hi)) e t);
         ws = s.ws;
         written = s.written;
-        whole = λ t v. seek_lane (found.At q n lo hi) e t v;
+        whole = λ t v. seek_lane (Ok (found.At q n lo hi)) e t v;
       }
 
-  module _ {i q n h hi : ℕ} {r : Received} {noted : ℕ} {notes : List ℕ} (s : Among en ad ro ma ring i q n h hi r noted notes) where
+  module _ {i q n h hi : ℕ} {noted : ℕ} {notes : List ℕ} (s : Among en ad ro ma ring i q n h hi noted notes) where
     -- none is left
-    among_none : (Tabled en ad ro → (v : ℕ) → up_to (rows_of en ad ro ma) v q n h hi ≡ value nothing) → Seeking en ad ro ma ring (i + 1) r noted notes
+    among_none : (Tabled en ad ro → (v : ℕ) → up_to (rows_of en ad ro ma) v q n h hi ≡ value nothing) → Seeking en ad ro ma ring (i + 1) noted notes
     unfolding bind or_next
     among_none g = record {
-      empty = s.empty;
       ws = s.ws;
       written = s.written;
       whole = λ t v. s.whole t v ∙ ap (λ (o : Outcome Receive). by_notes (rows_of en ad ro ma) v s.ws (said (bind o (or_next (left (rows_of en ad ro ma) v (i + 1)))))) (g t v);
     }
 
-    pub among_end : hi < h → Seeking en ad ro ma ring (i + 1) r noted notes
+    pub among_end : hi < h → Seeking en ad ro ma ring (i + 1) noted notes
     unfolding up_to among_hops
     among_end l = among_none (λ t v. ap (among_hops (rows_of en ad ro ma) v q n h) (let z : hi + 1 - h ≡ 0 = omega arith in z))
 
     -- by the look at the next of them
-    module _ {u : Step} (k : Looked en ad ro ma ring q n h hi u) where
-      look : (f : Step) → u ≡ f → Tabled en ad ro → Stepped (rows_of en ad ro ma) ring q n h hi f
+    module _ {u : Result Step Refusal} (k : Looked en ad ro ma ring q n h hi u) where
+      look : (f : Result Step Refusal) → u ≡ f → Tabled en ad ro → Stepped (rows_of en ad ro ma) ring q n h hi f
       look f e t = subst (Stepped (rows_of en ad ro ma) ring q n h hi) e (k.stepped t (s.fits t))
 
-      pub among_over : u ≡ step.Over → Seeking en ad ro ma ring (i + 1) r noted notes
+      pub among_over : u ≡ (Ok step.Over) → Seeking en ad ro ma ring (i + 1) noted notes
       unfolding Stepped
-      among_over e = among_none (look step.Over e)
+      among_over e = among_none (look (Ok step.Over) e)
 
-      pub among_on : (j : ℕ) → u ≡ step.On j → Among en ad ro ma ring i q n j hi r noted notes
+      pub among_on : (j : ℕ) → u ≡ Ok (step.On j) → Among en ad ro ma ring i q n j hi noted notes
       unfolding Stepped
       among_on j e = record {
-        empty = s.empty;
         fits = s.fits;
         ws = s.ws;
         written = s.written;
-        whole = λ t v. s.whole t v ∙ ap (λ (o : Outcome Receive). by_notes (rows_of en ad ro ma) v s.ws (said (bind o (or_next (left (rows_of en ad ro ma) v (i + 1)))))) (look (step.On j) e t v);
+        whole = λ t v. s.whole t v ∙ ap (λ (o : Outcome Receive). by_notes (rows_of en ad ro ma) v s.ws (said (bind o (or_next (left (rows_of en ad ro ma) v (i + 1)))))) (look (Ok (step.On j)) e t v);
       }
 
       -- a path is passed, and noted
-      pub among_past : (j o : ℕ) → u ≡ step.Past j o → n < 256 → (w noted' : ℕ) (notes' : List ℕ) → note_ring w ≡ o → (q < 65536 → w ≡ q * 1099511627776 + n * 4294967296 + j * 65536 + o) → PutNote w noted notes noted' notes' → Among en ad ro ma ring i q n (j + 1) hi r noted' notes'
+      pub among_past : (j o : ℕ) → u ≡ Ok (step.Past j o) → n < 256 → (w noted' : ℕ) (notes' : List ℕ) → note_ring w ≡ o → (q < 65536 → w ≡ q * 1099511627776 + n * 4294967296 + j * 65536 + o) → PutNote w noted notes noted' notes' → Among en ad ro ma ring i q n (j + 1) hi noted' notes'
       unfolding Stepped
       among_past j o e b w noted' notes' leaves is put = record {
-        empty = s.empty;
         fits = s.fits;
         ws = s.ws ++ w ∷ [];
         written = written_more ring s.ws noted notes w noted' notes' s.written (λ z. at_most.3 (sym leaves ∙ z)) put;
@@ -270,18 +266,18 @@ module _ (en ad ro ma : List ℕ) (ring : ℕ) where
               ≡ cond (eqb (note_ring w) v) (walk_said (rows_of en ad ro ma) v (note_stand w)) (said (bind (up_to (rows_of en ad ro ma) v q n (j + 1) hi) (or_next (left (rows_of en ad ro ma) v (i + 1)))))
           this t v =
               let p = note_stand_lem w q n j o (is (s.fits t)) (s.fits t) b at_most.1 at_most.2 in
-              look (step.Past j o) e t v (left (rows_of en ad ro ma) v (i + 1))
+              look (Ok (step.Past j o)) e t v (left (rows_of en ad ro ma) v (i + 1))
               ∙ ap (λ (z : ℕ). cond (eqb z v) (walk_said (rows_of en ad ro ma) v (at q n j)) (said (bind (up_to (rows_of en ad ro ma) v q n (j + 1) hi) (or_next (left (rows_of en ad ro ma) v (i + 1)))))) (sym leaves)
               ∙ ap (λ (z : Stand). cond (eqb (note_ring w) v) (walk_said (rows_of en ad ro ma) v z) (said (bind (up_to (rows_of en ad ro ma) v q n (j + 1) hi) (or_next (left (rows_of en ad ro ma) v (i + 1)))))) (sym p)
 
-      pub among_fits : (a : Received) → u ≡ step.Fits a → Searches (length notes) en ad ro ma ring a noted notes
-      unfolding Stepped end_hops
-      among_fits a e = record {
-        comes = record { answers = λ t. look (step.Fits a) e t _ ∙ sym (s.whole t ring ∙ notes_none (rows_of en ad ro ma) ring s.ws _ s.written.others); few = omega (arith, k.few, ap end_hops e) };
+      pub among_fits : (p : ReceivePath) → u ≡ Ok (step.Fits p) → Searches (length notes) en ad ro ma ring (Ok (answer.Path p)) noted notes
+      unfolding Stepped end_hops hops_by is_path
+      among_fits p e = record {
+        comes = record { answers = λ t. look (Ok (step.Fits p)) e t _ ∙ sym (s.whole t ring ∙ notes_none (rows_of en ad ro ma) ring s.ws _ s.written.others); few = omega (arith, k.few, ap end_hops e) };
         within = s.written.within;
-        tells = λ p l. absurd (true≢false (sym (k.fitting a e) ∙ p));
+        tells = λ z l. absurd (true≢false z);
       }
 
-      pub among_refused : (a : Refusal) → u ≡ step.Refused a → Searches (length notes) en ad ro ma ring (answer.Refused a) noted notes
+      pub among_refused : (a : Refusal) → u ≡ Err a → Searches (length notes) en ad ro ma ring (Err a) noted notes
       unfolding Stepped received_outcome hops_by
-      among_refused a e = ends (answer.Refused a) s.ws noted notes s.written (omega arith) (λ t v. s.whole t v ∙ ap (λ (z : Outcome Said). by_notes (rows_of en ad ro ma) v s.ws z) (sym (look (step.Refused a) e t v _)))
+      among_refused a e = ends (Err a) s.ws noted notes s.written (omega arith) (λ t v. s.whole t v ∙ ap (λ (z : Outcome Said). by_notes (rows_of en ad ro ma) v s.ws z) (sym (look (Err a) e t v _)))

@@ -1,10 +1,7 @@
 -- Document 01, module 7, `discover_one_dma`: the receive path of a ring, on the rows of a loaded survey. Assumes nothing.
-use Rattle.std.specs.Prelude.{ℕ, zero, suc, ◌+◌, ◌-◌, Bool, false, cond, List, [], ◌∷◌, eqb}
-use Rattle.std.proofs.Math.Option.{Option, none, some}
+use Rattle.std.specs.Prelude.{ℕ, zero, suc, ◌+◌, ◌-◌, Bool, false, cond, List, [], ◌∷◌, eqb, Option, None, Some}
 use Rattle.refusal.specs.Outcome.{Outcome, value, bind}
 use Rattle.route.specs.Route.{downstream_adapter}
-use Rattle.route.specs.declared.AdapterFound.{AdapterFound}
-use Rattle.route.specs.declared.AdapterFound.TheVariants as found
 use Rattle.adapter.specs.Adapter.{AdapterRow, min_hop}
 use Rattle.tables.specs.Rows.{EntryRow, DeviceRow, Rows, adapter_in, device_in}
 use Rattle.parents.specs.Parents.{is_xdomain, parent_of}
@@ -25,26 +22,26 @@ pub data Lane : Type 0 where
 
 -- the ring's tunnel is dropped where a lane adapter is missing, or has no least or no largest HopID: the Rust's `?`
 unfoldable pub or_dropped : {A : Type 0} → Option A → (A → Outcome Lane) → Outcome Lane
-or_dropped none f = value dropped
-or_dropped (some a) f = f a
+or_dropped None f = value dropped
+or_dropped (Some a) f = f a
 
 -- the HopIDs of an adapter of the router at place q, least to largest, or 6
 unfoldable pub hops_of : ℕ → AdapterRow → Outcome Lane
 hops_of q y = or_dropped (min_hop y.kind) (λ lo. bind y.max_hop (λ m. or_dropped m (λ hi. value (lane q y.number lo hi))))
 
 -- `downstream_adapter` of the parent, the router at place q; none, and the xdomain is passed over
-unfoldable pub beneath : Rows → ℕ → AdapterFound → Outcome Lane
-beneath x q found.None = value passed
-beneath x q (found.Adapter n) = or_dropped (adapter_in x.adapters q n) (hops_of q)
+unfoldable pub beneath : Rows → ℕ → Option ℕ → Outcome Lane
+beneath x q None = value passed
+beneath x q (Some n) = or_dropped (adapter_in x.adapters q n) (hops_of q)
 
 unfoldable pub under_router : Rows → DeviceRow → ℕ → Option DeviceRow → Outcome Lane
-under_router x d q none = value passed
-under_router x d q (some e) = beneath x q (downstream_adapter e.domain e.route d.domain d.route)
+under_router x d q None = value passed
+under_router x d q (Some e) = beneath x q (downstream_adapter e.domain e.route d.domain d.route)
 
 -- an xdomain without a parent is passed over
 unfoldable pub under_parent : Rows → DeviceRow → Option ℕ → Outcome Lane
-under_parent x d none = value passed
-under_parent x d (some q) = under_router x d q (device_in x.devices q)
+under_parent x d None = value passed
+under_parent x d (Some q) = under_router x d q (device_in x.devices q)
 
 -- the devices that are looked at: xdomains, of any domain
 unfoldable pub taken : DeviceRow → Bool
@@ -69,8 +66,8 @@ uses_ring ring (h ∷ hs) = eqb (last_of h hs).out_hop ring
 
 -- a walk's path if it uses the ring; else what the HopIDs after it give
 unfoldable pub or_rest : ℕ → Outcome Receive → Option (List EntryRow) → Outcome Receive
-or_rest ring rest none = rest
-or_rest ring rest (some hs) = cond (uses_ring ring hs) (value (received hs)) rest
+or_rest ring rest None = rest
+or_rest ring rest (Some hs) = cond (uses_ring ring hs) (value (received hs)) rest
 
 -- k HopIDs of adapter n of the router at place q, from h on: the first path that uses the ring
 unfoldable pub among_hops : Rows → ℕ → ℕ → ℕ → ℕ → ℕ → Outcome Receive

@@ -1,15 +1,16 @@
 -- The search for a ring's receive path, on tables. Assumes nothing.
-use Rattle.std.specs.Prelude.{ℕ, suc, ◌/◌, ◌%◌, ◌^◌, ◌≤◌, ◌<◌, ◌≡◌, Bool, true, false, cond, List, [], ◌∷◌, eqb, length, take}
-use Rattle.std.proofs.Math.Option.{Option, none as absent, some}
+use Rattle.std.specs.Prelude.{ℕ, suc, ◌/◌, ◌%◌, ◌^◌, ◌≤◌, ◌<◌, ◌≡◌, Bool, true, false, cond, List, [], ◌∷◌, eqb, length, take, Option, None as absent, Some, Result, Ok, Err}
 use Rattle.refusal.specs.Outcome.{Outcome, value, bind}
 use Rattle.tables.specs.Rows.{Rows}
-use Rattle.load.specs.Answers.{refused_by}
+use Rattle.refusal.specs.Refusal.{refused_by}
 use Rattle.walk.specs.Walking.{Stand}
 use Rattle.walk.specs.Rule.{walk_from, stand_of}
 use Rattle.walk.specs.Tables.{rows_of, Tabled, Leaving, last_of, leaving_by, leaves}
 use Rattle.receive.specs.Receive.{at, Receive, Receive.received, Receive.nothing, Receive.lost, receive}
 use Rattle.receive.specs.declared.Received.{Received}
+use Rattle.refusal.specs.declared.Refusal.{Refusal}
 use Rattle.receive.specs.declared.Received.TheVariants as answer
+use Rattle.receive.specs.declared.ReceivePath.{ReceivePath}
 
 -- what is said of a search: of a path its start, and by what it leaves
 pub data Said : Type 0 where
@@ -25,17 +26,21 @@ said_of nothing = none
 said_of lost = dropped
 
 -- document 01's number and values for what is answered; a receive path leaves by its ring
-unfoldable pub received_outcome : ℕ → Received → Outcome Said
-received_outcome ring (answer.Path q n h k p a) = value (path (at q n h) (record { hops = k; place = p; adapter = a; hop_id = ring }))
-received_outcome ring answer.Nothing = value none
-received_outcome ring answer.Lost = value dropped
-received_outcome ring (answer.Refused r) = refused_by r
+unfoldable pub received_outcome : ℕ → Result Received Refusal → Outcome Said
+received_outcome ring (Ok (answer.Path p)) = value (path (at p.place p.adapter p.hop) (record { hops = p.hops; place = p.out_place; adapter = p.out_adapter; hop_id = ring }))
+received_outcome ring (Ok answer.Nothing) = value none
+received_outcome ring (Ok answer.Lost) = value dropped
+received_outcome ring (Err r) = refused_by r
 
-unfoldable pub hops_by : Received → ℕ
-hops_by (answer.Path q n h k p a) = k
-hops_by answer.Nothing = 0
-hops_by answer.Lost = 0
-hops_by (answer.Refused r) = 0
+-- a path by its start, its number of hops, and the place and adapter by which it leaves
+abbrev pub path_of : ℕ → ℕ → ℕ → ℕ → ℕ → ℕ → ReceivePath
+path_of q n h k p a = record { place = q; adapter = n; hop = h; hops = k; out_place = p; out_adapter = a }
+
+unfoldable pub hops_by : Result Received Refusal → ℕ
+hops_by (Ok (answer.Path p)) = p.hops
+hops_by (Ok answer.Nothing) = 0
+hops_by (Ok answer.Lost) = 0
+hops_by (Err r) = 0
 
 -- ---- the paths that a search passes
 
@@ -49,7 +54,7 @@ note_ring w = w % 65536
 -- what is said of the walk from a stand, as of a path that leaves by a ring: a note under that ring is read as such a walk
 unfoldable pub said_from : ℕ → Stand → Option Leaving → Said
 said_from ring s absent = none
-said_from ring s (some l) = path s (record { hops = l.hops; place = l.place; adapter = l.adapter; hop_id = ring })
+said_from ring s (Some l) = path s (record { hops = l.hops; place = l.place; adapter = l.adapter; hop_id = ring })
 
 unfoldable pub walk_said : Rows → ℕ → Stand → Outcome Said
 walk_said x ring s = bind (bind (walk_from x s) (λ o. value (leaves o))) (λ l. value (said_from ring s l))
@@ -60,23 +65,23 @@ by_notes x ring [] rest = rest
 by_notes x ring (w ∷ ws) rest = cond (eqb (note_ring w) ring) (walk_said x ring (note_stand w)) (by_notes x ring ws rest)
 
 -- a path was found
-unfoldable pub is_path : Received → Bool
-is_path (answer.Path q n h k p a) = true
-is_path answer.Nothing = false
-is_path answer.Lost = false
-is_path (answer.Refused r) = false
+unfoldable pub is_path : Result Received Refusal → Bool
+is_path (Ok (answer.Path p)) = true
+is_path (Ok answer.Nothing) = false
+is_path (Ok answer.Lost) = false
+is_path (Err r) = false
 
 -- In tables in order, what is noted and how it ends tells what the search for any ring comes to.
-pub record Foretells (en ad ro ma notes : List ℕ) (end : Received) : Type 0 where
+pub record Foretells (en ad ro ma notes : List ℕ) (end : Result Received Refusal) : Type 0 where
   pub tells : Tabled en ad ro → (ring : ℕ) → bind (receive (rows_of en ad ro ma) ring) (λ v. value (said_of v)) ≡ by_notes (rows_of en ad ro ma) ring notes (received_outcome ring end)
 
 -- In tables in order it is what the search comes to. In any others it is free, but that a path has no more hops than there are entries.
-pub record Receives (en ad ro ma : List ℕ) (ring : ℕ) (r : Received) : Type 0 where
+pub record Receives (en ad ro ma : List ℕ) (ring : ℕ) (r : Result Received Refusal) : Type 0 where
   pub answers : Tabled en ad ro → received_outcome ring r ≡ bind (receive (rows_of en ad ro ma) ring) (λ v. value (said_of v))
   pub few : hops_by r ≤ length en
 
 -- The same with notes for the search of other rings, in a list that has room for some number of them. Document 01 has none. Fewer than the room, where no path is found, tell with what is found what the search for any ring comes to. The rest is free, and only time hangs on it: how many there are, up to the room, which tell nothing, as any number does where a path is found; the notes themselves then; their order under different rings; a second note under a ring; a note that says no more than what is found; and the words after the notes.
-pub record Searches (room : ℕ) (en ad ro ma : List ℕ) (ring : ℕ) (found : Received) (noted : ℕ) (notes : List ℕ) : Type 0 where
+pub record Searches (room : ℕ) (en ad ro ma : List ℕ) (ring : ℕ) (found : Result Received Refusal) (noted : ℕ) (notes : List ℕ) : Type 0 where
   pub comes : Receives en ad ro ma ring found
   pub within : noted ≤ room
   pub tells : is_path found ≡ false → noted < room → Foretells en ad ro ma (take noted notes) found

@@ -9,32 +9,30 @@ ghost use Rattle.receive.specs.Receive.{hops_of, under_router, taken};
 ghost use Rattle.receive.specs.Tables.{note_ring, Searches};
 ghost use Rattle.receive.specs.Work.{lane_outcome, LaneIs, lane_at, Looked, PutNote};
 
-use adapter::{Facts, HopFound, MaxHop};
-use load::Refusal;
-use parents::ParentAnswer;
-use refusal::{Fault, Site};
-use route::AdapterFound;
-use search::HopAt;
-use tables::{DeviceFacts, DeviceFound};
-use walk::Walked;
+use adapter::Facts;
+use refusal::{Fault, FieldError, Refusal, Site};
+use tables::DeviceFacts;
 
-// A path by its start, its number of hops, and the place and adapter by which it leaves; none; the ring's tunnel is dropped; or what refuses it.
+// A path by its start, its number of hops, and the place and adapter by which it leaves.
 #[derive(Clone, Copy)]
-pub enum Received {
-    Path {
-        place: usize,
-        adapter: u8,
-        hop: u16,
-        hops: usize,
-        out_place: usize,
-        out_adapter: u8,
-    },
-    Nothing,
-    Lost,
-    Refused(Refusal),
+pub struct ReceivePath {
+    pub place: usize,
+    pub adapter: u8,
+    pub hop: u16,
+    pub hops: usize,
+    pub out_place: usize,
+    pub out_adapter: u8,
 }
 
-// HopIDs of an adapter at which a device's paths come in; a device that is passed over; the ring's tunnel is dropped; or what refuses it.
+// A path; none; or the ring's tunnel is dropped.
+#[derive(Clone, Copy)]
+pub enum Received {
+    Path(ReceivePath),
+    Nothing,
+    Lost,
+}
+
+// HopIDs of an adapter at which a device's paths come in; a device that is passed over; or the ring's tunnel is dropped.
 #[derive(Clone, Copy)]
 pub enum LaneFound {
     At {
@@ -45,13 +43,12 @@ pub enum LaneFound {
     },
     Passed,
     Dropped,
-    Refused(Refusal),
 }
 
 // What a search comes to, and notes for the search of other rings: of a path that it passes the place, adapter and HopID from which it starts, and the HopID that it leaves by, in one word. `noted` is how many there are; 64 tell nothing.
 #[derive(Drop)]
 pub struct Searched {
-    pub found: Received,
+    pub found: Result<Received, Refusal>,
     pub noted: usize,
     pub notes: [u64; 64],
 }
@@ -59,7 +56,7 @@ pub struct Searched {
 // The same with room for 2,048 notes; 2,048 tell nothing.
 #[derive(Drop)]
 pub struct SearchedFar {
-    pub found: Received,
+    pub found: Result<Received, Refusal>,
     pub noted: usize,
     pub notes: [u64; 2048],
 }
@@ -67,57 +64,61 @@ pub struct SearchedFar {
 // The same without the notes themselves.
 #[derive(Clone, Copy)]
 pub struct Sought {
-    pub found: Received,
+    pub found: Result<Received, Refusal>,
     pub noted: usize,
 }
 
-// The HopID to look at next; a path from a HopID that leaves by another than the ring; none is left; a path that leaves by the ring; or what refuses it.
+// The HopID to look at next; a path from a HopID that leaves by another than the ring; none is left; or a path that leaves by the ring.
 #[derive(Clone, Copy)]
 pub enum Step {
     On(u32),
     Past { hop: u16, last: u16 },
     Over,
-    Fits(Received),
-    Refused(Refusal),
+    Fits(ReceivePath),
 }
 
 // The HopIDs of an adapter of the router at a place, or 6.
-fn hops_of(place: usize, f: Facts) -> LaneFound
+fn hops_of(place: usize, f: Facts) -> Result<LaneFound, Refusal>
     ensures { lane_outcome result ≡ hops_of place (facts_row place f) }
 {
     let kind = f.kind;
-    let HopFound::Hop(least) = hopids::min_hop(kind) else {
-        return LaneFound::Dropped;
+    let Some(least) = hopids::min_hop(kind) else {
+        return Ok(LaneFound::Dropped);
     };
     let max_hop = f.max_hop;
     match max_hop {
-        MaxHop::None => LaneFound::Dropped,
-        MaxHop::NoField => LaneFound::Refused(Refusal::Fault(Fault::NoField(Site {
+        Ok(None) => Ok(LaneFound::Dropped),
+        Err(FieldError::NoField) => Err(Refusal::Fault(Fault::NoField(Site {
             place,
             adapter: f.number,
         }))),
-        MaxHop::Hop(most) => LaneFound::At {
+        Ok(Some(most)) => Ok(LaneFound::At {
             place,
             adapter: f.number,
             least,
             most,
-        },
+        }),
     }
 }
 
 // Of the router at place q, the adapter beneath which a device hangs.
-fn beneath(adapters: &[u64], routes: &[u64], marks: &[u64], d: DeviceFacts, q: usize) -> LaneFound
+fn beneath(
+    adapters: &[u64],
+    routes: &[u64],
+    marks: &[u64],
+    d: DeviceFacts,
+    q: usize,
+) -> Result<LaneFound, Refusal>
     ensures { (p : ℕ) → LaneIs adapters.now routes.now marks.now (λ x. under_router x (device_row p d) q (device_in x.devices q)) result }
 {
-    let DeviceFound::Device(e) = routers::find_device(routes, marks, q) else {
-        return LaneFound::Passed;
+    let Some(e) = routers::find_device(routes, marks, q) else {
+        return Ok(LaneFound::Passed);
     };
-    let AdapterFound::Adapter(n) = route::downstream_adapter(e.domain, e.route, d.domain, d.route)
-    else {
-        return LaneFound::Passed;
+    let Some(n) = route::downstream_adapter(e.domain, e.route, d.domain, d.route) else {
+        return Ok(LaneFound::Passed);
     };
-    let tables::AdapterFound::Adapter(f) = search::find_adapter(adapters, q, n) else {
-        return LaneFound::Dropped;
+    let Some(f) = search::find_adapter(adapters, q, n) else {
+        return Ok(LaneFound::Dropped);
     };
     hops_of(q, f)
 }
@@ -131,20 +132,25 @@ fn taken(d: DeviceFacts) -> bool
 }
 
 // Where the receive paths of the device at a place come in: an xdomain's, at its parent.
-fn lane_of(adapters: &[u64], routes: &[u64], marks: &[u64], place: usize) -> LaneFound
+fn lane_of(
+    adapters: &[u64],
+    routes: &[u64],
+    marks: &[u64],
+    place: usize,
+) -> Result<LaneFound, Refusal>
     ensures { LaneIs adapters.now routes.now marks.now (λ x. lane_at x place) result }
 {
-    let DeviceFound::Device(d) = routers::find_device(routes, marks, place) else {
-        return LaneFound::Passed;
+    let Some(d) = routers::find_device(routes, marks, place) else {
+        return Ok(LaneFound::Passed);
     };
     if !taken(d) {
-        return LaneFound::Passed;
+        return Ok(LaneFound::Passed);
     }
-    match parents::parent_of(routes, marks, adapters, place, d) {
-        ParentAnswer::Refused(refusal) => LaneFound::Refused(refusal),
-        ParentAnswer::None => LaneFound::Passed,
-        ParentAnswer::Place(q) => beneath(adapters, routes, marks, d, q),
-    }
+    let parent = parents::parent_of(routes, marks, adapters, place, d)?;
+    let Some(q) = parent else {
+        return Ok(LaneFound::Passed);
+    };
+    beneath(adapters, routes, marks, d, q)
 }
 
 // The next HopID from `hop` to `most` that has an entry: its path, if its last hop leaves by the ring.
@@ -158,46 +164,46 @@ fn look_at(
     hop: u32,
     most: u32,
     ring: u16,
-) -> Step
+) -> Result<Step, Refusal>
     ensures { Looked entries.now adapters.now routes.now marks.now ring place adapter hop most result }
 {
     if 65535 < hop {
-        return Step::Over;
+        return Ok(Step::Over);
     }
-    let HopAt::Hop {
-        hop: h,
-        out_adapter: out,
-        out_hop,
-    } = search::next_hop(entries, place, adapter, hop as u16)
-    else {
-        return Step::Over;
+    let Some(next) = search::next_hop(entries, place, adapter, hop as u16) else {
+        return Ok(Step::Over);
     };
+    let h = next.hop;
     let at = h as u32;
     if most < at {
-        return Step::Over;
+        return Ok(Step::Over);
     }
-    match walk::onward(entries, adapters, routes, marks, place, out, out_hop) {
-        Walked::Refused(refusal) => Step::Refused(refusal),
-        Walked::Absent => Step::On(at + 1),
-        Walked::Path {
-            hops,
-            place: out_place,
-            adapter: out_adapter,
-            hop: last,
-        } => {
-            if last != ring {
-                return Step::Past { hop: h, last };
-            }
-            Step::Fits(Received::Path {
-                place,
-                adapter,
-                hop: h,
-                hops,
-                out_place,
-                out_adapter,
-            })
-        }
+    let walked = walk::onward(
+        entries,
+        adapters,
+        routes,
+        marks,
+        place,
+        next.out_adapter,
+        next.out_hop,
+    )?;
+    let Some(w) = walked else {
+        return Ok(Step::On(at + 1));
+    };
+    if w.hop != ring {
+        return Ok(Step::Past {
+            hop: h,
+            last: w.hop,
+        });
     }
+    Ok(Step::Fits(ReceivePath {
+        place,
+        adapter,
+        hop: h,
+        hops: w.hops,
+        out_place: w.place,
+        out_adapter: w.adapter,
+    }))
 }
 
 // A path's note.
@@ -231,44 +237,45 @@ fn seek_path(
     ensures { Searches (length notes.new) entries.now adapters.now routes.now marks.now ring result.found result.noted notes.new }
 {
     let mut noted: usize = 0;
-    let mut found = Received::Nothing;
     let mut i: usize = 0;
-    'rx_path: while i < routes.len() {
+    while i < routes.len() {
         match lane_of(adapters, routes, marks, i) {
-            LaneFound::Refused(refusal) => {
-                let found = Received::Refused(refusal);
+            Err(refusal) => {
+                let found = Err(refusal);
                 return Sought { found, noted };
             }
-            LaneFound::Dropped => {
-                let found = Received::Lost;
+            Ok(LaneFound::Dropped) => {
+                let found = Ok(Received::Lost);
                 return Sought { found, noted };
             }
-            LaneFound::Passed => i += 1,
-            LaneFound::At {
-                place,
-                adapter,
-                least,
-                most,
-            } => {
+            Ok(LaneFound::Passed) => i += 1,
+            Ok(
+                LaneFound::At {
+                    place,
+                    adapter,
+                    least,
+                    most,
+                },
+            ) => {
                 let mut hop = least;
                 while hop <= most {
                     match look_at(
                         entries, adapters, routes, marks, place, adapter, hop, most, ring,
                     ) {
-                        Step::On(next) => hop = next,
-                        Step::Past { hop: h, last } => {
+                        Ok(Step::On(next)) => hop = next,
+                        Ok(Step::Past { hop: h, last }) => {
                             let word = note_word(place, adapter, h, last);
                             noted = put_note(notes, noted, word);
                             hop = h as u32 + 1;
                         }
-                        Step::Over => break,
-                        Step::Refused(refusal) => {
-                            let found = Received::Refused(refusal);
+                        Ok(Step::Over) => break,
+                        Err(refusal) => {
+                            let found = Err(refusal);
                             return Sought { found, noted };
                         }
-                        Step::Fits(path) => {
-                            found = path;
-                            break 'rx_path;
+                        Ok(Step::Fits(path)) => {
+                            let found = Ok(Received::Path(path));
+                            return Sought { found, noted };
                         }
                     }
                 }
@@ -276,6 +283,7 @@ fn seek_path(
             }
         }
     }
+    let found = Ok(Received::Nothing);
     Sought { found, noted }
 }
 

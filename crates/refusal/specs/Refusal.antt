@@ -1,8 +1,11 @@
 -- Document 01, "When it says no": the number and the values of each fault of loading, walks and discovery. Assumes nothing.
-use Rattle.std.specs.Prelude.{ℕ, List, [], ◌∷◌}
-use Rattle.refusal.specs.Outcome.{Outcome, refused}
+use Rattle.std.specs.Prelude.{ℕ, List, [], ◌∷◌, Result, Ok, Err}
+use Rattle.refusal.specs.Outcome.{Outcome, refused, value}
 use Rattle.refusal.specs.declared.Site.{Site}
 use Rattle.refusal.specs.declared.Fault.{Fault}
+use Rattle.refusal.specs.declared.Refusal.{Refusal}
+use Rattle.refusal.specs.declared.FieldError.{FieldError}
+use Rattle.refusal.specs.declared.Refusal.TheVariants as refusal
 use Rattle.refusal.specs.declared.Fault.TheVariants.{FewRegisters, NoField, BadAdapters, GenTOffset, NoPathDump, NoOutAdapter, NoParentRoute, NoDownstreamRoute, Endless}
 
 -- 5 to 12 come with device place and adapter number, which is always 0 for 7
@@ -19,3 +22,27 @@ refusal_of (NoOutAdapter s) = refused 10 (at s)
 refusal_of (NoParentRoute s) = refused 11 (at s)
 refusal_of (NoDownstreamRoute s) = refused 12 (at s)
 refusal_of Endless = refused 13 []
+
+abbrev pub refused_by : {A : Type 0} → Refusal → Outcome A
+refused_by (refusal.NotAscii p) = refused 1 (p ∷ [])
+refused_by (refusal.Short n) = refused 2 (n ∷ [])
+refused_by (refusal.Descriptions p) = refused 3 (p ∷ [])
+refused_by (refusal.Survey p) = refused 4 (p ∷ [])
+refused_by refusal.NoField = refused 6 []
+refused_by (refusal.Fault f) = refusal_of f
+refused_by refusal.Missing = refused 14 []
+
+-- what a call answers, in document 01's numbers and values
+abbrev pub outcome : {A : Type 0} → Result A Refusal → Outcome A
+outcome (Ok a) = value a
+outcome (Err r) = refused_by r
+
+-- the same of a part of loading, which meets faults alone
+abbrev pub fault_outcome : {A : Type 0} → Result A Fault → Outcome A
+fault_outcome (Ok a) = value a
+fault_outcome (Err f) = refusal_of f
+
+-- a field or a flag that is wanted of a named register: 6 alone where it is missing
+abbrev pub field_read : {A : Type 0} → Result A FieldError → Outcome A
+field_read (Ok a) = value a
+field_read (Err e) = refused 6 []

@@ -1,6 +1,9 @@
 // Where a fault was met: a device by its place in the survey and an adapter by its number; 0 for the router itself and an xdomain, and the missing number for a missing out adapter.
 #![tactic(auto)]
 
+ghost use Rattle.std.specs.Prelude.{◌≡◌};
+ghost use Rattle.refusal.specs.declared.Refusal.TheVariants as refusal;
+
 #[derive(Clone, Copy)]
 pub struct Site {
     pub place: usize,
@@ -28,4 +31,37 @@ pub enum Fault {
     NoDownstreamRoute(Site),
     // A walk never ends.
     Endless,
+}
+
+// What a call refuses. specs/Refusal.antt gives each its number and values.
+#[derive(Clone, Copy)]
+pub enum Refusal {
+    // A byte above 127, by its place.
+    NotAscii(usize),
+    // A buffer that is too short, by what is needed, or a text that is too long, by its length.
+    Short(usize),
+    // Description words that are not well formed, by the head place of the first group that breaks the rules.
+    Descriptions(usize),
+    // Survey words that are not well formed, likewise, or a text that makes none, by the words made before the line that is wrong.
+    Survey(usize),
+    // A field that is wanted where no register group stands or where it lacks the field: no device goes with it.
+    NoField,
+    // What loading, a walk or a discovery met.
+    Fault(Fault),
+    // There is no such device or adapter.
+    Missing,
+}
+
+impl From<Fault> for Refusal {
+    ghost from_gives = { λ f r. r ≡ refusal.Fault f };
+
+    fn from(fault: Fault) -> Refusal {
+        Refusal::Fault(fault)
+    }
+}
+
+// Why nothing is known of a field that is wanted of a named register.
+#[derive(Clone, Copy)]
+pub enum FieldError {
+    NoField,
 }

@@ -3,11 +3,10 @@
 
 ghost use Rattle.std.specs.Prelude.{ℕ, ◌≡◌};
 ghost use Rattle.refusal.specs.Refusal.{refusal_of};
-ghost use Rattle.load.specs.Answers.{refused_by};
+ghost use Rattle.refusal.specs.Refusal.{refused_by};
 ghost use Rattle.refusals.specs.Told.{refused_as, sited_as};
 
-use load::Refusal;
-use refusal::{Fault, Site};
+use refusal::{Fault, Refusal, Site};
 
 // A refusal's number, how many values come with it, and the values, 0 where there are fewer.
 #[derive(Clone, Copy)]
@@ -61,6 +60,18 @@ pub fn numbers_of(refusal: Refusal) -> Numbers
     ensures { refused_as {A = ℕ} result ≡ refused_by refusal }
 {
     match refusal {
+        Refusal::NotAscii(place) => Numbers {
+            number: 1,
+            values: 1,
+            first: place,
+            second: 0,
+        },
+        Refusal::Short(need) => Numbers {
+            number: 2,
+            values: 1,
+            first: need,
+            second: 0,
+        },
         Refusal::Descriptions(place) => Numbers {
             number: 3,
             values: 1,
@@ -71,6 +82,12 @@ pub fn numbers_of(refusal: Refusal) -> Numbers
             number: 4,
             values: 1,
             first: place,
+            second: 0,
+        },
+        Refusal::NoField => Numbers {
+            number: 6,
+            values: 0,
+            first: 0,
             second: 0,
         },
         Refusal::Fault(fault) => of_fault(fault),

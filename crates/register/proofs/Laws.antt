@@ -1,4 +1,5 @@
 -- Laws on what a line is. Assumes nothing.
+use Rattle.std.specs.Prelude.{Err, Ok}
 use Prim.Native.Nat.{ℕ, ◌<◌, ◌≤◌}
 use native.Mathlib.Omega.{arith}
 use mathlib.Core.Path.{◌≡◌, refl}
@@ -12,14 +13,13 @@ use Rattle.scan.proofs.Laws.{tokens_le}
 use Rattle.register.specs.Line.{is_comment, four_tokens, five_tokens, by_tokens, meaning}
 use Rattle.register.specs.declared.Register.{Register}
 use Rattle.register.specs.declared.Skip.TheVariants.{Comment, Few}
-use Rattle.register.specs.declared.Met.TheVariants.{Record, Skipped}
 
 module _ (s : List ℕ) where
-  pub is_comment_lem : is_comment s ≡ true → meaning s ≡ Skipped Comment
+  pub is_comment_lem : is_comment s ≡ true → meaning s ≡ Err Comment
   unfolding meaning
   is_comment_lem c = simp c
 
-  pub is_few : is_comment s ≡ false → length (tokens s) < 4 → meaning s ≡ Skipped Few
+  pub is_few : is_comment s ≡ false → length (tokens s) < 4 → meaning s ≡ Err Few
   unfolding meaning by_tokens
   is_few c h = simp (c, lt-ltb (length (tokens s)) 4 h)
 
@@ -32,7 +32,7 @@ module _ (s : List ℕ) where
   is_five n h a b c d e ea eb ec ed ee = rw (ea, eb, ec, ed, ee) (simp (n, le-ltb (length (tokens s)) 4 (omega arith), ne_eqb (length (tokens s)) 4 (λ q. omega arith)))
 
 -- a record has four tokens, so four bytes
-pub four_bytes : (l : List ℕ) (r : Register) → meaning l ≡ Record r → 4 ≤ length l
+pub four_bytes : (l : List ℕ) (r : Register) → meaning l ≡ Ok r → 4 ≤ length l
 four_bytes l r e = omega (arith, tokens_le l, long (dec_lt (length (tokens l)) 4))
   where
     few : (c : Bool) → is_comment l ≡ c → length (tokens l) < 4 → ⊥

@@ -64,14 +64,12 @@ pub fn word(line: &[u8], at: usize) -> u64 {
         return NO_WORD;
     }
     let mut value: u64 = 0;
-    let mut k = 1;
-    while k < 9 {
+    for k in 1..9 {
         let d = digit(line[at + k]);
         if 15 < d {
             return NO_WORD;
         }
         value = value % 268435456 * 16 + wide(d);
-        k += 1;
     }
     value
 }
@@ -90,13 +88,11 @@ pub fn next(line: &[u8], at: usize) -> usize {
 // The place after these words, or the line's length where others stand.
 pub fn after(line: &[u8], at: usize, words: &[u32]) -> usize {
     let mut a = at;
-    let mut k = 0;
-    while k < words.len() {
-        if word(line, a) != wide_word(words[k]) {
+    for &w in words {
+        if word(line, a) != wide_word(w) {
             return line.len();
         }
         a = next(line, a);
-        k += 1;
     }
     a
 }
@@ -121,14 +117,12 @@ pub fn number_at(line: &[u8], at: usize) -> u32 {
 // Puts the words from `at` on into `words`, again and again until it is full.
 fn fill(line: &[u8], at: usize, words: &mut [u32]) {
     let mut a = at;
-    let mut n = 0;
-    while n < words.len() {
+    for w in words.iter_mut() {
         if 4294967295 < word(line, a) {
             a = at;
         }
-        words[n] = number_at(line, a);
+        *w = number_at(line, a);
         a = next(line, a);
-        n += 1;
     }
 }
 
@@ -148,9 +142,7 @@ pub fn mark_at(first: u32, i: usize) -> u32 {
 }
 
 pub fn mark(words: &mut [u32], first: u32) {
-    let mut i = 0;
-    while i < words.len() {
-        words[i] = mark_at(first, i);
-        i += 1;
+    for (i, w) in words.iter_mut().enumerate() {
+        *w = mark_at(first, i);
     }
 }

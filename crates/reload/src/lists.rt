@@ -2,20 +2,20 @@
 use crate::case::{after, mark, next, number_at};
 use crate::loads::{refusal_word, value};
 use crate::starts::{FIRST, Wrote, kept, short_word};
-use discovery::TunnelsAnswer;
+use refusal::Refusal;
 
-fn told(a: TunnelsAnswer) -> Wrote {
+fn told(a: Result<Option<usize>, Refusal>) -> Wrote {
     match a {
-        TunnelsAnswer::Words(n) => Wrote {
+        Ok(Some(n)) => Wrote {
             words: n,
             head: value(n as u64),
         },
-        TunnelsAnswer::Absent => Wrote { words: 0, head: 0 },
-        TunnelsAnswer::Short(needed) => Wrote {
+        Ok(None) => Wrote { words: 0, head: 0 },
+        Err(Refusal::Short(needed)) => Wrote {
             words: 0,
             head: short_word(needed),
         },
-        TunnelsAnswer::Refused(r) => Wrote {
+        Err(r) => Wrote {
             words: 0,
             head: refusal_word(r),
         },

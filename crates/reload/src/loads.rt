@@ -3,14 +3,11 @@ use crate::case::{Step, after, input_end, listed, next, number_at, one, word};
 use crate::lists::{after_discovery, discovery_says};
 use crate::starts::{after_walk, walk_says};
 use acceptance::Acceptance;
-use adapter::HopFound;
-use adapters::{AdapterAnswer, AdapterInfo, MaxHopAnswer, PathAnswer, SpeedAnswer};
-use capabilities::CapAnswer;
-use devices::{DeviceAnswer, DeviceInfo, UpstreamAnswer};
-use fabric::RouteAnswer;
-use load::Refusal;
-use parents::ParentAnswer;
-use refusal::{Fault, Site};
+use adapter::{EntryOut, Part};
+use adapters::AdapterInfo;
+use devices::DeviceInfo;
+use refusal::{Fault, Refusal, Site};
+use usb4::Speed;
 
 // An answer as the file has it: its first word, and those that follow it.
 #[derive(Clone, Copy)]
@@ -73,12 +70,14 @@ fn fault_word(f: Fault) -> u32 {
     }
 }
 
+// Of the others only 2 comes from a call on a survey, and it is told apart before.
 pub fn refusal_word(r: Refusal) -> u32 {
     match r {
         Refusal::Descriptions(p) => placed(0xf3000000, p, 0),
         Refusal::Survey(p) => placed(0xf4000000, p, 0),
         Refusal::Fault(f) => fault_word(f),
         Refusal::Missing => 0xfe000000,
+        _ => NEVER,
     }
 }
 
@@ -86,17 +85,17 @@ fn refused(r: Refusal) -> Answer {
     short(refusal_word(r))
 }
 
-fn accepted_said(a: Acceptance) -> Answer {
+fn accepted_said(a: Result<Acceptance, Refusal>) -> Answer {
     match a {
-        Acceptance::Refused(r) => refused(r),
-        Acceptance::Survey { devices, entries } => {
-            if 16383 < devices {
+        Err(r) => refused(r),
+        Ok(counts) => {
+            if 16383 < counts.devices {
                 return short(NEVER);
             }
-            if 16383 < entries {
+            if 16383 < counts.entries {
                 return short(NEVER);
             }
-            said(devices as u64 * 16384 + entries as u64)
+            said(counts.devices as u64 * 16384 + counts.entries as u64)
         }
     }
 }
@@ -114,34 +113,34 @@ fn device_info(d: DeviceInfo) -> Answer {
     }
 }
 
-fn device_said(a: DeviceAnswer) -> Answer {
+fn device_said(a: Result<DeviceInfo, Refusal>) -> Answer {
     match a {
-        DeviceAnswer::Refused(r) => refused(r),
-        DeviceAnswer::Device(d) => device_info(d),
+        Err(r) => refused(r),
+        Ok(d) => device_info(d),
     }
 }
 
-fn upstream_said(a: UpstreamAnswer) -> Answer {
+fn upstream_said(a: Result<Option<u8>, Refusal>) -> Answer {
     match a {
-        UpstreamAnswer::Refused(r) => refused(r),
-        UpstreamAnswer::None => short(0),
-        UpstreamAnswer::Adapter(n) => said(n as u64),
+        Err(r) => refused(r),
+        Ok(None) => short(0),
+        Ok(Some(n)) => said(n as u64),
     }
 }
 
-fn parent_said(a: ParentAnswer) -> Answer {
+fn parent_said(a: Result<Option<usize>, Refusal>) -> Answer {
     match a {
-        ParentAnswer::Refused(r) => refused(r),
-        ParentAnswer::None => short(0),
-        ParentAnswer::Place(p) => said(p as u64),
+        Err(r) => refused(r),
+        Ok(None) => short(0),
+        Ok(Some(p)) => said(p as u64),
     }
 }
 
-fn route_said(a: RouteAnswer) -> Answer {
+fn route_said(a: Result<Option<u64>, Refusal>) -> Answer {
     match a {
-        RouteAnswer::Refused(r) => refused(r),
-        RouteAnswer::None => short(0),
-        RouteAnswer::Route(v) => Answer {
+        Err(r) => refused(r),
+        Ok(None) => short(0),
+        Ok(Some(v)) => Answer {
             head: 536870912,
             second: (v % 4294967296) as u32,
             third: (v / 4294967296) as u32,
@@ -151,10 +150,10 @@ fn route_said(a: RouteAnswer) -> Answer {
     }
 }
 
-fn hop_word(h: HopFound) -> u32 {
+fn hop_word(h: Option<u32>) -> u32 {
     match h {
-        HopFound::Hop(n) => value(n as u64),
-        HopFound::None => 0,
+        Some(n) => value(n as u64),
+        None => 0,
     }
 }
 
@@ -173,52 +172,49 @@ fn adapter_info(a: AdapterInfo) -> Answer {
     }
 }
 
-fn adapter_said(a: AdapterAnswer) -> Answer {
+fn adapter_said(a: Result<AdapterInfo, Refusal>) -> Answer {
     match a {
-        AdapterAnswer::Refused(r) => refused(r),
-        AdapterAnswer::Adapter(info) => adapter_info(info),
+        Err(r) => refused(r),
+        Ok(info) => adapter_info(info),
     }
 }
 
-fn speed_said(a: SpeedAnswer) -> Answer {
+fn speed_said(a: Result<Speed, Refusal>) -> Answer {
     match a {
-        SpeedAnswer::Refused(r) => refused(r),
-        SpeedAnswer::Speed(s) => said(usb4::speed_number(s) as u64),
+        Err(r) => refused(r),
+        Ok(s) => said(usb4::speed_number(s) as u64),
     }
 }
 
-fn max_hop_said(a: MaxHopAnswer) -> Answer {
+fn max_hop_said(a: Result<Option<u32>, Refusal>) -> Answer {
     match a {
-        MaxHopAnswer::Refused(r) => refused(r),
-        MaxHopAnswer::None => short(0),
-        MaxHopAnswer::Hop(n) => said(n as u64),
+        Err(r) => refused(r),
+        Ok(None) => short(0),
+        Ok(Some(n)) => said(n as u64),
     }
 }
 
-fn cap_said(a: CapAnswer) -> Answer {
+fn cap_said(a: Result<Option<Part>, Refusal>) -> Answer {
     match a {
-        CapAnswer::Refused(r) => refused(r),
-        CapAnswer::None => short(0),
-        CapAnswer::Part { start, end } => {
-            if 4095 < start {
+        Err(r) => refused(r),
+        Ok(None) => short(0),
+        Ok(Some(part)) => {
+            if 4095 < part.start {
                 return short(NEVER);
             }
-            if 4095 < end {
+            if 4095 < part.end {
                 return short(NEVER);
             }
-            said(start as u64 * 4096 + end as u64)
+            said(part.start as u64 * 4096 + part.end as u64)
         }
     }
 }
 
-fn path_said(a: PathAnswer) -> Answer {
+fn path_said(a: Result<Option<EntryOut>, Refusal>) -> Answer {
     match a {
-        PathAnswer::Refused(r) => refused(r),
-        PathAnswer::None => short(0),
-        PathAnswer::Entry {
-            out_adapter,
-            out_hop,
-        } => said(out_adapter as u64 * 65536 + out_hop as u64),
+        Err(r) => refused(r),
+        Ok(None) => short(0),
+        Ok(Some(entry)) => said(entry.out_adapter as u64 * 65536 + entry.out_hop as u64),
     }
 }
 
@@ -388,8 +384,7 @@ fn after_question(line: &[u8], at: usize, d: &[u32], survey: &[u32]) -> usize {
 // Whether all questions from `at` to `stop` have their answers.
 fn answers_agree(line: &[u8], at: usize, stop: usize, d: &[u32], survey: &[u32]) -> bool {
     let mut a = at;
-    let mut i = 0;
-    while i < line.len() {
+    for _ in 0..line.len() {
         if a == stop {
             return true;
         }
@@ -397,7 +392,6 @@ fn answers_agree(line: &[u8], at: usize, stop: usize, d: &[u32], survey: &[u32])
             return false;
         }
         a = after_question(line, a, d, survey);
-        i += 1;
     }
     false
 }
@@ -405,10 +399,8 @@ fn answers_agree(line: &[u8], at: usize, stop: usize, d: &[u32], survey: &[u32])
 // The place after so many words.
 fn skip(line: &[u8], at: usize, count: usize) -> usize {
     let mut a = at;
-    let mut i = 0;
-    while i < count {
+    for _ in 0..count {
         a = next(line, a);
-        i += 1;
     }
     a
 }

@@ -1,7 +1,7 @@
 // Whether a single walk answers what the words of a case say, and leaves its output as it should. oracle/make-walks says what questions and answers are.
 use crate::case::{after, mark, mark_at, next, number_at};
 use crate::loads::{NEVER, refusal_word};
-use path::WalkAnswer;
+use refusal::Refusal;
 
 // An output's words before a call count on from here.
 pub const FIRST: u32 = 0x0a000000;
@@ -13,18 +13,18 @@ pub struct Wrote {
     pub head: u32,
 }
 
-fn told(a: WalkAnswer) -> Wrote {
+fn told(a: Result<Option<usize>, Refusal>) -> Wrote {
     match a {
-        WalkAnswer::Path(n) => Wrote {
+        Ok(Some(n)) => Wrote {
             words: path_words(n),
             head: NEVER,
         },
-        WalkAnswer::Absent => Wrote { words: 0, head: 0 },
-        WalkAnswer::Short(needed) => Wrote {
+        Ok(None) => Wrote { words: 0, head: 0 },
+        Err(Refusal::Short(needed)) => Wrote {
             words: 0,
             head: short_word(needed),
         },
-        WalkAnswer::Refused(r) => Wrote {
+        Err(r) => Wrote {
             words: 0,
             head: refusal_word(r),
         },
@@ -48,12 +48,10 @@ pub fn short_word(needed: usize) -> u32 {
 
 // Whether no word from `from` on was written.
 pub fn kept(output: &[u32], from: usize) -> bool {
-    let mut i = from;
-    while i < output.len() {
+    for i in from..output.len() {
         if output[i] != mark_at(FIRST, i) {
             return false;
         }
-        i += 1;
     }
     true
 }

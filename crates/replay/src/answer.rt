@@ -1,8 +1,6 @@
 // The answers of the Rust: whether a call's answer is what the words from `at` on say.
 use crate::case::{after, ends};
-use dump::Dump;
-use register::{Line, Register};
-use util::Number;
+use register::Register;
 
 fn wide(x: u16) -> u32 {
     x as u32
@@ -20,10 +18,10 @@ pub fn after_record(line: &[u8], at: usize, r: Register) -> usize {
     after(line, at, &words)
 }
 
-pub fn number_agrees(line: &[u8], at: usize, number: Number) -> bool {
+pub fn number_agrees(line: &[u8], at: usize, number: Option<u64>) -> bool {
     match number {
-        Number::None => ends(line, at),
-        Number::Value(v) => {
+        None => ends(line, at),
+        Some(v) => {
             let words = [(v % 4294967296) as u32, (v / 4294967296) as u32];
             ends(line, after(line, at, &words))
         }
@@ -33,9 +31,9 @@ pub fn number_agrees(line: &[u8], at: usize, number: Number) -> bool {
 pub fn line_agrees(line: &[u8], at: usize, input: &[u8]) -> bool {
     let answer = register::parse_debugfs(input);
     match answer {
-        Line::Record(r) => ends(line, after_record(line, at, r)),
-        Line::None => ends(line, at),
-        Line::NotAscii(_) => false,
+        Ok(Some(r)) => ends(line, after_record(line, at, r)),
+        Ok(None) => ends(line, at),
+        Err(_) => false,
     }
 }
 
@@ -48,13 +46,12 @@ pub fn dump_agrees(
 ) -> bool {
     let answer = dump::read(input, scratch, output);
     match answer {
-        Dump::Records(n) => {
+        Ok(n) => {
             if output.len() / 4 < n {
                 return false;
             }
             ends(line, after(line, at, &output[..4 * n]))
         }
-        Dump::NotAscii(_) => false,
-        Dump::Short(_) => false,
+        Err(_) => false,
     }
 }

@@ -6,12 +6,6 @@ ghost use Rattle.std.specs.Prelude.{◌≡◌, ◌≤◌, length};
 // More than any word: there is none, or what stands there is malformed.
 const NO_WORD: u64 = 4294967296;
 
-#[derive(Clone, Copy)]
-pub enum Input {
-    Bytes(usize),
-    Malformed,
-}
-
 fn wide(b: u8) -> u64
     ensures { result ≤ 255 }
 {
@@ -64,44 +58,42 @@ pub fn input_end(line: &[u8]) -> usize {
     scan::token(line, 0).end
 }
 
-// Puts the bytes of the first `end` digits into `out`.
-pub fn decode(line: &[u8], end: usize, out: &mut [u8]) -> Input {
+// Puts the bytes of the first `end` digits into `out` and says how many they are; none where they are malformed or too many.
+pub fn decode(line: &[u8], end: usize, out: &mut [u8]) -> Option<usize> {
     if line.len() < end {
-        return Input::Malformed;
+        return None;
     }
     if end < 1 {
-        return Input::Malformed;
+        return None;
     }
     if end == 1 {
         if line[0] == b'-' {
-            return Input::Bytes(0);
+            return Some(0);
         }
-        return Input::Malformed;
+        return None;
     }
     if end % 2 == 1 {
-        return Input::Malformed;
+        return None;
     }
     pairs(line, end / 2, out)
 }
 
 // Puts the bytes of the first `n` pairs into `out`.
-fn pairs(line: &[u8], n: usize, out: &mut [u8]) -> Input {
+fn pairs(line: &[u8], n: usize, out: &mut [u8]) -> Option<usize> {
     if line.len() / 2 < n {
-        return Input::Malformed;
+        return None;
     }
     if out.len() < n {
-        return Input::Malformed;
+        return None;
     }
-    let mut i = 0;
-    while i < n {
+    for i in 0..n {
         let b = byte(line[2 * i], line[2 * i + 1]);
         if 255 < b {
-            return Input::Malformed;
+            return None;
         }
         out[i] = b as u8;
-        i += 1;
     }
-    Input::Bytes(n)
+    Some(n)
 }
 
 // The word that stands at `at` with its blank, or NO_WORD.
@@ -116,14 +108,12 @@ pub fn word(line: &[u8], at: usize) -> u64 {
         return NO_WORD;
     }
     let mut value: u64 = 0;
-    let mut k = 1;
-    while k < 9 {
+    for k in 1..9 {
         let d = digit(line[at + k]);
         if 15 < d {
             return NO_WORD;
         }
         value = value % 268435456 * 16 + wide(d);
-        k += 1;
     }
     value
 }
@@ -142,13 +132,11 @@ pub fn next(line: &[u8], at: usize) -> usize {
 // The place after these words, or the line's length where others stand.
 pub fn after(line: &[u8], at: usize, words: &[u32]) -> usize {
     let mut a = at;
-    let mut k = 0;
-    while k < words.len() {
-        if word(line, a) != wide_word(words[k]) {
+    for &w in words {
+        if word(line, a) != wide_word(w) {
             return line.len();
         }
         a = next(line, a);
-        k += 1;
     }
     a
 }

@@ -1,11 +1,10 @@
 // Whether a call's answer is what the words of a case say.
 ghost use Rattle.std.specs.Prelude.{◌≤◌};
 
-use crate::case::{Input, after, decode, ends, input_end, next, word};
-use description::Checked;
-use fields::FieldFound;
-use metadata::{Described, FieldValue};
-use naming::{Found, Sought};
+use crate::case::{after, decode, ends, input_end, next, word};
+use fields::BitField;
+use naming::Sought;
+use refusal::Refusal;
 
 // Whether a line agrees, and how many words the set in hand has afterwards.
 #[derive(Clone, Copy)]
@@ -71,30 +70,26 @@ pub fn take_line(line: &[u8], words: &mut [u32], held: usize) -> Step {
 // Puts the words from `at` to the line's end into `words` and says how many they are.
 fn load(line: &[u8], at: usize, words: &mut [u32]) -> usize {
     let mut a = at;
-    let mut n = 0;
-    while n < words.len() {
+    for (n, slot) in words.iter_mut().enumerate() {
         let w = word(line, a);
         if 4294967295 < w {
             return n;
         }
-        words[n] = number(w);
+        *slot = number(w);
         a = next(line, a);
-        n += 1;
     }
-    n
+    words.len()
 }
 
 // Puts the words from `at` on into `words`, again and again until it is full.
 pub fn fill(line: &[u8], at: usize, words: &mut [u32]) {
     let mut a = at;
-    let mut n = 0;
-    while n < words.len() {
+    for w in words.iter_mut() {
         if 4294967295 < word(line, a) {
             a = at;
         }
-        words[n] = number_at(line, a);
+        *w = number_at(line, a);
         a = next(line, a);
-        n += 1;
     }
 }
 
@@ -102,10 +97,7 @@ fn well_formed(words: &[u32], n: usize) -> bool {
     if words.len() < n {
         return false;
     }
-    match description::check(&words[..n]) {
-        Checked::WellFormed => true,
-        Checked::Refused(_) => false,
-    }
+    description::check(&words[..n]).is_ok()
 }
 
 // The words say 0 or 3, the place, and the length of the list; then come its words.
@@ -120,8 +112,9 @@ fn place_agrees(line: &[u8], at: usize, words: &mut [u32]) -> bool {
     }
     fill(line, next(line, b), &mut words[..n]);
     match description::check(&words[..n]) {
-        Checked::WellFormed => status == 0,
-        Checked::Refused(p) => status == 3 && p == place,
+        Ok(()) => status == 0,
+        Err(Refusal::Descriptions(p)) => status == 3 && p == place,
+        Err(_) => false,
     }
 }
 
@@ -135,8 +128,7 @@ fn asked(line: &[u8], end: usize, bytes: &mut [u8], words: &[u32], held: usize) 
     if words.len() < held {
         return false;
     }
-    let decoded = decode(line, end, bytes);
-    let Input::Bytes(n) = decoded else {
+    let Some(n) = decode(line, end, bytes) else {
         return false;
     };
     if bytes.len() < n {
@@ -164,12 +156,12 @@ fn answered(line: &[u8], at: usize, descriptions: &[u32], wanted: &[u8]) -> bool
         return false;
     }
     match metadata::describe(descriptions, q) {
-        Described::Refused(_) => false,
-        Described::Nameless => {
+        Err(_) => false,
+        Ok(None) => {
             let words = [0, 0, 6, 0, 6, 0];
             ends(line, after(line, next(line, e), &words))
         }
-        Described::Group(p) => group_agrees(line, next(line, e), descriptions, p, value, wanted),
+        Ok(Some(p)) => group_agrees(line, next(line, e), descriptions, p, value, wanted),
     }
 }
 
@@ -183,10 +175,10 @@ fn routers_alike(descriptions: &[u32], q: Sought) -> bool {
     place_of(general) == place_of(own)
 }
 
-fn place_of(f: Found) -> usize {
+fn place_of(f: Option<usize>) -> usize {
     match f {
-        Found::At(p) => p,
-        Found::Nowhere => 16384,
+        Some(p) => p,
+        None => 16384,
     }
 }
 
@@ -214,30 +206,35 @@ fn group_agrees(
     ends(line, after(line, after(line, at, &words), name))
 }
 
-fn field_said(f: FieldValue) -> Said {
+fn field_said(f: Result<u32, Refusal>) -> Said {
     match f {
-        FieldValue::Value(v) => Said {
+        Ok(v) => Said {
             refusal: 0,
             value: v,
         },
-        FieldValue::Refused(_) => Said {
+        Err(Refusal::Descriptions(_)) => Said {
             refusal: 3,
             value: 0,
         },
-        FieldValue::NoField => Said {
+        Err(Refusal::NoField) => Said {
             refusal: 6,
+            value: 0,
+        },
+        // No case has another refusal, so this agrees with none.
+        Err(_) => Said {
+            refusal: u32::MAX,
             value: 0,
         },
     }
 }
 
-fn flag_said(f: FieldFound, value: u32) -> Said {
+fn flag_said(f: Option<BitField>, value: u32) -> Said {
     match f {
-        FieldFound::Bits { start, end } => Said {
+        Some(field) => Said {
             refusal: 0,
-            value: util::bits(value, start, end),
+            value: util::bits(value, field.start, field.end),
         },
-        FieldFound::Missing => Said {
+        None => Said {
             refusal: 6,
             value: 0,
         },

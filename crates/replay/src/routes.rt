@@ -1,7 +1,6 @@
 // Whether the route calls answer what the words of a case say.
 use crate::case::{after, ends, input_end, next};
 use crate::names::number_at;
-use route::{AdapterFound, RouteFound};
 
 // A route as the file has it: 1 and its two words, or 0 and 0 and 0 for none.
 #[derive(Clone, Copy)]
@@ -11,14 +10,14 @@ struct Shown {
     high: u32,
 }
 
-fn show(r: RouteFound) -> Shown {
+fn show(r: Option<u64>) -> Shown {
     match r {
-        RouteFound::Route(v) => Shown {
+        Some(v) => Shown {
             found: 1,
             low: (v % 4294967296) as u32,
             high: (v / 4294967296) as u32,
         },
-        RouteFound::None => Shown {
+        None => Shown {
             found: 0,
             low: 0,
             high: 0,
@@ -61,7 +60,7 @@ pub fn beneath_agrees(line: &[u8]) -> bool {
     let device = wide_at(line, a);
     let b = next(line, next(line, a));
     match route::downstream_adapter(0, way, 0, device) {
-        AdapterFound::Adapter(n) => ends(line, after(line, b, &[1, n as u32])),
-        AdapterFound::None => ends(line, after(line, b, &[0, 0])),
+        Some(n) => ends(line, after(line, b, &[1, n as u32])),
+        None => ends(line, after(line, b, &[0, 0])),
     }
 }

@@ -3,8 +3,7 @@
 // oracle/make-rules says what follows each.
 use crate::answer::{after_record, number_agrees};
 use crate::case::{after, after_pair, ends, next, room, word};
-use dump::Dump;
-use register::Line;
+use refusal::Refusal;
 
 pub fn rule_agrees(
     line: &[u8],
@@ -39,7 +38,7 @@ fn long_rule(
     if text.len() - count < input.len() {
         return false;
     }
-    fill(text, b);
+    text.fill(b);
     copy(input, text, count);
     plain_rule(
         line,
@@ -50,26 +49,16 @@ fn long_rule(
     )
 }
 
-fn fill(text: &mut [u8], b: u8) {
-    let mut i = 0;
-    while i < text.len() {
-        text[i] = b;
-        i += 1;
-    }
-}
-
 // Puts `s` into `text` at `at`, as far as it fits.
 fn copy(s: &[u8], text: &mut [u8], at: usize) {
     if text.len() < at {
         return;
     }
-    let mut i = 0;
-    while i < s.len() {
+    for (i, &b) in s.iter().enumerate() {
         if text.len() - at <= i {
             return;
         }
-        text[at + i] = s[i];
-        i += 1;
+        text[at + i] = b;
     }
 }
 
@@ -110,9 +99,10 @@ fn line_rule(line: &[u8], at: usize, input: &[u8]) -> bool {
     let answer = register::parse_debugfs(input);
     let said = word(line, at);
     match answer {
-        Line::Record(r) => said == 0 && ends(line, after_record(line, next(line, at), r)),
-        Line::None => said == 0 && ends(line, next(line, at)),
-        Line::NotAscii(place) => ends(line, after_pair(line, at, 1, place as u64)),
+        Ok(Some(r)) => said == 0 && ends(line, after_record(line, next(line, at), r)),
+        Ok(None) => said == 0 && ends(line, next(line, at)),
+        Err(Refusal::NotAscii(place)) => ends(line, after_pair(line, at, 1, place as u64)),
+        Err(_) => false,
     }
 }
 
@@ -151,11 +141,13 @@ fn dump_outcome(
     ends(line, after(line, b, output))
 }
 
-fn after_answer(line: &[u8], at: usize, answer: Dump) -> usize {
+// The place after the answer, or the line's length where another stands.
+fn after_answer(line: &[u8], at: usize, answer: Result<usize, Refusal>) -> usize {
     match answer {
-        Dump::Records(n) => after_pair(line, at, 0, n as u64),
-        Dump::NotAscii(place) => after_pair(line, at, 1, place as u64),
-        Dump::Short(needed) => after_pair(line, at, 2, needed as u64),
+        Ok(n) => after_pair(line, at, 0, n as u64),
+        Err(Refusal::NotAscii(place)) => after_pair(line, at, 1, place as u64),
+        Err(Refusal::Short(needed)) => after_pair(line, at, 2, needed as u64),
+        Err(_) => line.len(),
     }
 }
 
@@ -165,9 +157,7 @@ pub fn mark_at(first: u32, i: usize) -> u32 {
 }
 
 pub fn mark(words: &mut [u32], first: u32) {
-    let mut i = 0;
-    while i < words.len() {
-        words[i] = mark_at(first, i);
-        i += 1;
+    for (i, w) in words.iter_mut().enumerate() {
+        *w = mark_at(first, i);
     }
 }

@@ -1,7 +1,7 @@
 // Whether the survey calls answer what the words of a case say. The list stands last: its length, and its words.
 use crate::case::{input_end, next, word};
 use crate::names::{fill, number_at};
-use survey::{Checked, Placed};
+use refusal::Refusal;
 
 // Puts the list into `words` and says how many words it has; more than there are where it doesn't fit.
 pub fn listed(line: &[u8], at: usize, words: &mut [u32]) -> usize {
@@ -18,8 +18,9 @@ fn check_agrees(words: &[u32], n: usize, status: u32, place: u64) -> bool {
         return false;
     }
     match wellformed::check(&words[..n]) {
-        Checked::WellFormed => status == 0,
-        Checked::Refused(p) => status == 4 && p as u64 == place,
+        Ok(()) => status == 0,
+        Err(Refusal::Survey(p)) => status == 4 && p as u64 == place,
+        Err(_) => false,
     }
 }
 
@@ -28,8 +29,8 @@ fn group_agrees(words: &[u32], n: usize, place: u64, found: u32, start: u64, end
         return false;
     }
     match places::device_group(&words[..n], place as usize) {
-        Placed::Group(s, e) => found == 1 && s as u64 == start && e as u64 == end,
-        Placed::Nowhere => found == 0,
+        Some(group) => found == 1 && group.start as u64 == start && group.end as u64 == end,
+        None => found == 0,
     }
 }
 

@@ -1,23 +1,22 @@
 -- The results of the exported calls on a survey and on one adapter, as words. Assumes nothing.
-use Rattle.std.specs.Prelude.{ℕ, List, [], ◌∷◌}
-use Rattle.std.proofs.Math.Option.{Option, none, some}
+use Rattle.std.specs.Prelude.{Option, None, Some, ℕ, List, [], ◌∷◌}
 use Rattle.usb4.specs.Numbers.{type_number, state_number, speed_number}
 use Rattle.usb4.specs.declared.Speed.{Speed}
 use Rattle.text.specs.Text.{bit}
-use Rattle.acceptance.specs.Accepted.{Counts}
-use Rattle.adapters.specs.Calls.{Info}
+use Rattle.acceptance.specs.declared.Acceptance.{Acceptance}
+use Rattle.adapters.specs.declared.AdapterInfo.{AdapterInfo}
 
 -- devices, valid entries
-unfoldable pub counts_words : Counts → List ℕ
+unfoldable pub counts_words : Acceptance → List ℕ
 counts_words c = c.devices ∷ c.entries ∷ []
 
 -- a least HopID; 65,536 says that there is none, since no HopID is so large
 unfoldable pub hop_or : Option ℕ → ℕ
-hop_or none = 65536
-hop_or (some h) = h
+hop_or None = 65536
+hop_or (Some h) = h
 
 -- kind, state, lane 0, lane 1, least HopID, whether it is enabled
-unfoldable pub info_words : Info → List ℕ
+unfoldable pub info_words : AdapterInfo → List ℕ
 info_words i = type_number i.kind ∷ state_number i.state ∷ bit i.lane0 ∷ bit i.lane1 ∷ hop_or i.min_hop ∷ bit i.enabled ∷ []
 
 unfoldable pub speed_words : Speed → List ℕ

@@ -3,6 +3,7 @@ use Prim.Native.Nat.{ℕ, suc, ◌+◌, ◌*◌, ◌≤◌, ◌<◌}
 use mathlib.Core.Path.{◌≡◌, refl, sym, ap, ◌∙◌}
 use mathlib.Core.Bool.{Bool, true, false, cond}
 use mathlib.Core.List.{List, [], ◌∷◌, map}
+use Rattle.std.specs.Prelude.{Result, Ok, Err}
 use native.Mathlib.Omega.{arith}
 use native.Mathlib.Nat.{add-zero, zero-add, add_assoc}
 use native.Mathlib.Numerals.{add-one}
@@ -12,18 +13,16 @@ use Rattle.refusal.specs.Outcome.{Outcome, refused, value, bind}
 use Rattle.adapter.specs.Adapter.{AdapterRow}
 use Rattle.tables.specs.Rows.{Rows}
 use Rattle.tables.specs.Packed.{adapter_word}
-use Rattle.refusals.specs.Told.{refused_as}
-use Rattle.refusals.specs.declared.Numbers.{Numbers}
+use Rattle.refusal.specs.Refusal.{refused_by, outcome}
+use Rattle.refusal.specs.declared.Refusal.{Refusal}
+use Rattle.refusal.proofs.Laws.{refused_bind}
 use Rattle.fabric.specs.Tables.{rows_with}
 use Rattle.walk.specs.Tables.{rows_of, Tabled}
 use Rattle.printing.specs.Lines.{is_tunnel, is_hop}
 use Rattle.printed.specs.Printed.{parts_of, one, tunnels_by, tunnels_in}
 use Rattle.report.specs.Report.{answer_of, answers_of, total_of}
-use Rattle.report.specs.Tables.{Fits, tried_outcome, Tries}
+use Rattle.report.specs.Tables.{Fits, Tries}
 use Rattle.report.specs.Work.{words_outcome, Answered}
-use Rattle.report.specs.declared.Tried.TheVariants as tried
-use Rattle.report.specs.declared.Answer.{Answer}
-use Rattle.report.specs.declared.Answer.TheVariants as answer
 
 -- ---- how many tunnels words have at most
 
@@ -75,12 +74,15 @@ module _ (x : Rows) (total : ℕ) (y : AdapterRow) (ys : List AdapterRow) where
   unfolding total_with answers_of bind
   with_one ws e = from_one total ws (answers_of x ys) ∙ ap (λ o. bind (bind o (λ us. bind (answers_of x ys) (λ wss. value (us ∷ wss)))) (λ wss. value (total + total_of wss))) e
 
-  with_refused : (m : Numbers) → refused_as m ≡ answer_of x y → refused_as m ≡ total_with x total (y ∷ ys)
-  unfolding total_with answers_of bind refused_as
-  with_refused m e = ap (λ o. bind (bind o (λ us. bind (answers_of x ys) (λ wss. value (us ∷ wss)))) (λ wss. value (total + total_of wss))) e
+  with_refused : (m : Refusal) → refused_by m ≡ answer_of x y → refused_by m ≡ total_with x total (y ∷ ys)
+  unfolding total_with answers_of
+  with_refused m e =
+      let g : List ℕ → Outcome (List (List ℕ)) = λ us. bind (answers_of x ys) (λ wss. value (us ∷ wss)) in
+      let h : List (List ℕ) → Outcome ℕ = λ wss. value (total + total_of wss) in
+      sym (ap (λ o. bind o h) (refused_bind m g) ∙ refused_bind m h) ∙ ap (λ o. bind (bind o g) h) e
 
 module _ (en ad ro ma : List ℕ) where
-  pub tries_larger : (Fits en ad ro → ⊥) → Tries en ad ro ma (tried.Tunnels 0)
+  pub tries_larger : (Fits en ad ro → ⊥) → Tries en ad ro ma (Ok 0)
   tries_larger z = record { answers = λ k es. absurd (z k); larger = λ f. refl; few = λ n q. let e : 0 ≡ n = cc in omega arith }
 
   pub none_tried : Trying en ad ro ma 0 0
@@ -92,7 +94,7 @@ module _ (en ad ro ma : List ℕ) where
     next : i < length ad → total_with (rows_of en ad ro ma) total (map adapter_word (drop i ad)) ≡ total_with (rows_of en ad ro ma) total (adapter_word (get_or ad i 0) ∷ map adapter_word (drop (suc i) ad))
     next l = ap (λ ys. total_with (rows_of en ad ro ma) total (map adapter_word ys)) (drop-cons ad i 0 l)
 
-    pub one_tried : i < length ad → (r : Answer) (ws : List ℕ) → Answered en ad ro ma i r ws → length ws ≡ 16384 → (n : ℕ) → r ≡ answer.Words n → (k : ℕ) → k ≡ tunnels_in (take n ws) → Trying en ad ro ma (total + k) (i + 1)
+    pub one_tried : i < length ad → (r : Result ℕ Refusal) (ws : List ℕ) → Answered en ad ro ma i r ws → length ws ≡ 16384 → (n : ℕ) → r ≡ Ok n → (k : ℕ) → k ≡ tunnels_in (take n ws) → Trying en ad ro ma (total + k) (i + 1)
     unfolding words_outcome
     one_tried l r ws a q n e k z = record {
       past = omega arith;
@@ -105,8 +107,8 @@ module _ (en ad ro ma : List ℕ) where
           ∙ t.whole f es;
     }
 
-    pub tries_refused : i < length ad → Fits en ad ro → (r : Answer) (ws : List ℕ) → Answered en ad ro ma i r ws → (m : Numbers) → r ≡ answer.Refused m → Tries en ad ro ma (tried.Refused m)
-    unfolding tried_outcome words_outcome
+    pub tries_refused : i < length ad → Fits en ad ro → (r : Result ℕ Refusal) (ws : List ℕ) → Answered en ad ro ma i r ws → (m : Refusal) → r ≡ Err m → Tries en ad ro ma (Err m)
+    unfolding words_outcome
     tries_refused l f r ws a m e = record {
       answers = λ k es.
           with_refused (rows_of en ad ro ma) total (adapter_word (get_or ad i 0)) (map adapter_word (drop (suc i) ad)) m (sym (ap (λ y. words_outcome y ws) e) ∙ a.answers k es)
@@ -116,8 +118,8 @@ module _ (en ad ro ma : List ℕ) where
       few = λ n q. absurd (let z : ◌≡◌ {A = ℕ} 0 1 = cc in omega arith);
     }
 
-    pub tries_all : length ad ≤ i → Fits en ad ro → Tries en ad ro ma (tried.Tunnels total)
-    unfolding tried_outcome total_with answers_of bind total_of
+    pub tries_all : length ad ≤ i → Fits en ad ro → Tries en ad ro ma (Ok total)
+    unfolding total_with answers_of bind total_of
     tries_all l f = record {
       answers = λ k es.
           ap value (sym (add-zero total))

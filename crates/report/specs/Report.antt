@@ -1,6 +1,5 @@
 -- Document 01, the program: each adapter of a loaded survey is tried in order, with 16,384 words for each answer, and then all is printed. Assumes nothing.
-use Rattle.std.specs.Prelude.{ℕ, ◌+◌, cond, List, [], ◌∷◌, ◌++◌, ltb, length}
-use Rattle.std.proofs.Math.Option.{Option, none, some}
+use Rattle.std.specs.Prelude.{ℕ, ◌+◌, cond, List, [], ◌∷◌, ◌++◌, ltb, length, Option, None, Some}
 use Rattle.refusal.specs.Outcome.{Outcome, refused, value, bind}
 use Rattle.adapter.specs.Adapter.{AdapterRow}
 use Rattle.tables.specs.Rows.{Rows}
@@ -14,8 +13,8 @@ answer_room = 16384
 
 -- an adapter's result words; absent and an empty list have none
 unfoldable pub words_by : Option (List Tunnel) → Outcome (List ℕ)
-words_by none = value []
-words_by (some ts) = cond (ltb answer_room (length (tunnels_words ts))) (refused 2 (length (tunnels_words ts) ∷ [])) (value (tunnels_words ts))
+words_by None = value []
+words_by (Some ts) = cond (ltb answer_room (length (tunnels_words ts))) (refused 2 (length (tunnels_words ts) ∷ [])) (value (tunnels_words ts))
 
 unfoldable pub answer_of : Rows → AdapterRow → Outcome (List ℕ)
 answer_of x y = bind (discover_at x y.device y.number) words_by

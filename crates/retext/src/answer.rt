@@ -3,9 +3,7 @@
 ghost use Rattle.std.specs.Prelude.{◌≤◌, ◌≡◌, length};
 
 use crate::case::after;
-use printed::Printed;
-use program::OpenAnswer;
-use report::Page;
+use load::Counts;
 
 // As much as the program lends for a page.
 fn page_room() -> [u8; 786432]
@@ -16,7 +14,7 @@ fn page_room() -> [u8; 786432]
 
 fn after_refused(stored: &[u8], number: u8) -> usize {
     let mut line = [0u8; 16];
-    let Printed::Bytes(n) = summary::refused(number, &mut line) else {
+    let Ok(n) = summary::refused(number, &mut line) else {
         return stored.len();
     };
     after(stored, 0, &line[..n])
@@ -24,7 +22,7 @@ fn after_refused(stored: &[u8], number: u8) -> usize {
 
 fn after_total(stored: &[u8], tunnels: usize) -> usize {
     let mut line = [0u8; 32];
-    let Printed::Bytes(n) = summary::total(tunnels, &mut line) else {
+    let Ok(n) = summary::total(tunnels, &mut line) else {
         return stored.len();
     };
     after(stored, 0, &line[..n])
@@ -41,14 +39,11 @@ fn after_pages(
     buffer: &mut [u8],
 ) -> usize {
     let mut i = at;
-    let mut index = 0;
-    while index < adapters.len() {
-        let Page::Bytes(n) = report::put_page(entries, adapters, routes, marks, index, buffer)
-        else {
+    for index in 0..adapters.len() {
+        let Ok(Ok(n)) = report::put_page(entries, adapters, routes, marks, index, buffer) else {
             return stored.len();
         };
         i = after(stored, i, &buffer[..n]);
-        index += 1;
     }
     i
 }
@@ -61,20 +56,18 @@ fn after_tables(
     table: &[u64],
     routes: &[u64],
     marks: &[u64],
-    entries: usize,
-    adapters: usize,
-    devices: usize,
+    counts: Counts,
 ) -> usize
-    requires { (entries ≤ length paths.now) × (adapters ≤ length table.now) × (devices ≤ length routes.now) × (devices ≤ length marks.now) }
+    requires { (counts.entries ≤ length paths.now) × (counts.adapters ≤ length table.now) × (counts.devices ≤ length routes.now) × (counts.devices ≤ length marks.now) }
 {
     let mut buffer = page_room();
     after_pages(
         stored,
         at,
-        &paths[..entries],
-        &table[..adapters],
-        &routes[..devices],
-        &marks[..devices],
+        &paths[..counts.entries],
+        &table[..counts.adapters],
+        &routes[..counts.devices],
+        &marks[..counts.devices],
         &mut buffer,
     )
 }
@@ -83,21 +76,14 @@ pub fn after_text(stored: &[u8], text: &[u8]) -> usize {
     let opened = program::open(text);
     let answer = opened.answer;
     match answer {
-        OpenAnswer::Refused(numbers) => after_refused(stored, numbers.number),
-        OpenAnswer::Tables {
-            entries,
-            adapters,
-            devices,
-            tunnels,
-        } => {
-            let at = after_total(stored, tunnels);
+        Err(refusal) => after_refused(stored, refusals::numbers_of(refusal).number),
+        Ok(tried) => {
+            let at = after_total(stored, tried.tunnels);
             let paths = opened.entries;
             let table = opened.adapters;
             let routes = opened.routes;
             let marks = opened.marks;
-            after_tables(
-                stored, at, &paths, &table, &routes, &marks, entries, adapters, devices,
-            )
+            after_tables(stored, at, &paths, &table, &routes, &marks, tried.counts)
         }
     }
 }

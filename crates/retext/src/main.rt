@@ -5,10 +5,8 @@
 mod answer;
 mod case;
 
-ghost use Rattle.std.specs.Prelude.{◌+◌, ◌<◌, ◌≤◌, ◌≡◌, length, take, IfOk};
-ghost use Rattle.std.specs.Io.KnownBytes.{Consumes, IsAtEnd};
+ghost use Rattle.std.specs.Prelude.{◌+◌, ◌<◌, ◌≤◌, ◌≡◌, length};
 
-use std::io::Read;
 use std::rt::Files;
 use std::{fs, io};
 
@@ -92,23 +90,6 @@ fn write_count(rt: &impl Print, words: &str, n: usize) -> io::Result<()> {
     print!(rt; "{words}{n}")
 }
 
-// Reads until `text` is full or the input ends, and says how many bytes it put at the start of `text`.
-fn read_full<R: Read>(from: &mut R, text: &mut [u8]) -> io::Result<usize>
-    ensures within { IfOk result (λ n. n ≤ length text.new) }
-    ensures bytes { IfOk result (λ n. Consumes (R.remaining from.old) (R.remaining from.new) (take n text.new)) }
-    ensures end { IfOk result (λ n. n < length text.new → IsAtEnd (R.remaining from.new)) }
-{
-    let mut n = 0;
-    while n < text.len() {
-        let more = from.read(&mut text[n..])?;
-        if more == 0 {
-            return Ok(n);
-        }
-        n += more;
-    }
-    Ok(n)
-}
-
 // Replays the file of that name. One that is missing or too long says so instead of totals.
 fn replay(rt: &(impl Files + Print), name: &str) -> io::Result<()> {
     rt.print(name)?;
@@ -116,7 +97,7 @@ fn replay(rt: &(impl Files + Print), name: &str) -> io::Result<()> {
         return rt.print(" missing\n");
     };
     let mut text = file_room();
-    let n = read_full(&mut file, &mut text)?;
+    let n = input::read_full(&mut file, &mut text)?;
     if n == 1000000 {
         return rt.print(" too long\n");
     }

@@ -6,20 +6,14 @@ ghost use Rattle.scan.specs.Scan.{lines};
 ghost use Rattle.room.specs.Records.{with_record, records_of, RoomFor};
 ghost use Rattle.room.specs.Work.{line_start, starts_in};
 
-use register::Met;
-
-// There is room in both, or the words needed.
-#[derive(Clone, Copy)]
-pub enum Room {
-    Enough,
-    Short(usize),
-}
+use refusal::Refusal;
+use register::{Register, Skip};
 
 // How many records a line gives, 0 or 1.
-fn line_records(met: Met) -> usize
+fn line_records(met: Result<Register, Skip>) -> usize
     ensures { result ≡ length (with_record met []) }
 {
-    let Met::Record(_) = met else {
+    let Ok(_) = met else {
         return 0;
     };
     1
@@ -48,17 +42,17 @@ fn lacks(words: usize, need: usize) -> bool
 }
 
 // Whether there is room in the scratch and in the output, by the number of records.
-fn room_counted(dump: &[u8], scratch: usize, output: usize) -> Room
+fn room_counted(dump: &[u8], scratch: usize, output: usize) -> Result<(), Refusal>
     ensures { RoomFor dump.now scratch output result }
 {
     let need = 4 * count(dump);
     if lacks(scratch, need) {
-        return Room::Short(need);
+        return Err(Refusal::Short(need));
     }
     if lacks(output, need) {
-        return Room::Short(need);
+        return Err(Refusal::Short(need));
     }
-    Room::Enough
+    Ok(())
 }
 
 // 1 where a line that may give a record begins between two bytes: after LF, and neither with LF nor with `#`. Else 0.
@@ -83,10 +77,8 @@ fn starts(s: &[u8]) -> u8
     ensures { result ≡ starts_in s.now }
 {
     let mut n: u8 = 0;
-    let mut i: usize = 0;
-    while i + 1 < s.len() {
-        n += start(s[i], s[i + 1]);
-        i += 1;
+    for i in 1..s.len() {
+        n += start(s[i - 1], s[i]);
     }
     n
 }
@@ -97,6 +89,7 @@ fn all_starts(s: &[u8]) -> usize
 {
     let mut n: usize = 0;
     let mut at: usize = 0;
+    // No step_by: where the loop ends is where the last block begins.
     while 193 <= s.len() - at {
         n += starts(&s[at..at + 193]) as usize;
         at += 192;
@@ -115,7 +108,7 @@ fn most_records(s: &[u8]) -> usize
 }
 
 // Whether there is room for a dump's records in the scratch and in the output. Where there is room for a record a line, no record is counted.
-pub fn room_for(dump: &[u8], scratch: usize, output: usize) -> Room
+pub fn room_for(dump: &[u8], scratch: usize, output: usize) -> Result<(), Refusal>
     ensures { RoomFor dump.now scratch output result }
 {
     let most = most_records(dump);
@@ -125,5 +118,5 @@ pub fn room_for(dump: &[u8], scratch: usize, output: usize) -> Room
     if lacks(output / 4, most) {
         return room_counted(dump, scratch, output);
     }
-    Room::Enough
+    Ok(())
 }

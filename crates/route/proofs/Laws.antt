@@ -1,4 +1,5 @@
 -- Laws on depths. Assumes nothing.
+use Rattle.std.specs.Prelude.{None, Some}
 use Prim.Native.Nat.{ℕ, zero, suc, ◌+◌, ◌-◌, ◌*◌, ◌/◌, ◌%◌, ◌^◌, ◌<◌, ◌≤◌}
 use native.Mathlib.Omega.{arith}
 use native.Mathlib.Nat.{div-lt_iff_lt-mul, mul-le-mul_right}
@@ -9,9 +10,6 @@ use lib.Pow.{pow-add, pow_pos, pow_mono}
 use borrow.Author.Tests.{eq-eqb, ne_eqb, eqb-true}
 use Rattle.util.proofs.Laws.{and_false}
 use Rattle.route.specs.Route.{used_bytes, depth_of, upstream_route, downstream_route, adapter_beneath}
-use Rattle.route.specs.declared.RouteFound.TheVariants.{Route, None}
-use Rattle.route.specs.declared.AdapterFound.TheVariants as adapter
-use Rattle.route.specs.declared.AdapterFound.TheVariants.{Adapter}
 
 -- what is left of a route after d bytes
 module _ (k r : ℕ) where
@@ -60,18 +58,18 @@ module _ (r d : ℕ) (deep : d ≡ depth_of r) where
   unfolding upstream_route
   up_none h = simp (eq-eqb (depth_of r) 0 (omega arith))
 
-  pub up_some : (u : ℕ) → 1 ≤ d → u ≡ 2 ^ (8 * (d - 1)) → upstream_route r ≡ Route (r % u)
+  pub up_some : (u : ℕ) → 1 ≤ d → u ≡ 2 ^ (8 * (d - 1)) → upstream_route r ≡ Some (r % u)
   unfolding upstream_route
-  up_some u h e = simp (ne_eqb (depth_of r) 0 (λ z. omega arith)) (ap (λ n. Route (r % 2 ^ (8 * (n - 1)))) (sym deep) ∙ ap (λ n. Route (r % n)) (sym e))
+  up_some u h e = simp (ne_eqb (depth_of r) 0 (λ z. omega arith)) (ap (λ n. Some (r % 2 ^ (8 * (n - 1)))) (sym deep) ∙ ap (λ n. Some (r % n)) (sym e))
 
   pub down_none : (a : ℕ) → 8 ≤ d → downstream_route r a ≡ None
   unfolding downstream_route
   down_none a h = simp (eq-eqb (depth_of r) 8 (omega (arith, depth_le r)))
 
   module _ (u : ℕ) (shallow : d < 8) (e : u ≡ 2 ^ (8 * d)) where
-    pub down_some : (a : ℕ) → downstream_route r a ≡ Route (r + a * u)
+    pub down_some : (a : ℕ) → downstream_route r a ≡ Some (r + a * u)
     unfolding downstream_route
-    down_some a = simp (ne_eqb (depth_of r) 8 (λ z. omega arith)) (ap (λ n. Route (r + a * 2 ^ (8 * n))) (sym deep) ∙ ap (λ n. Route (r + a * n)) (sym e))
+    down_some a = simp (ne_eqb (depth_of r) 8 (λ z. omega arith)) (ap (λ n. Some (r + a * 2 ^ (8 * n))) (sym deep) ∙ ap (λ n. Some (r + a * n)) (sym e))
 
     -- one byte more still fits a route
     pub down_room : (a : ℕ) → a < 256 → r < 2 ^ 64 → (a * u < 2 ^ 64) × (r + a * u < 2 ^ 64)
@@ -85,19 +83,19 @@ module _ (r d : ℕ) (deep : d ≡ depth_of r) where
     unit_pos = subst (λ n. 0 < n) (sym e) (pow_pos (8 * d))
 
     module _ (device d' : ℕ) (deep' : d' ≡ depth_of device) where
-      here : adapter_beneath r device ≡ cond (eqb d' (d + 1) && eqb r (device % u)) (Adapter (device / u % 256)) adapter.None
+      here : adapter_beneath r device ≡ cond (eqb d' (d + 1) && eqb r (device % u)) (Some (device / u % 256)) None
       unfolding adapter_beneath
       here = simp (e, deep, deep')
 
-      pub adapter_route : (r ≡ device % u → ⊥) → adapter_beneath r device ≡ adapter.None
+      pub adapter_route : (r ≡ device % u → ⊥) → adapter_beneath r device ≡ None
       adapter_route n = here ∙ simp (ne_eqb r (device % u) n, and_false)
 
-      pub adapter_some : d' ≡ d + 1 → r ≡ device % u → adapter_beneath r device ≡ Adapter (device / u % 256)
+      pub adapter_some : d' ≡ d + 1 → r ≡ device % u → adapter_beneath r device ≡ Some (device / u % 256)
       adapter_some f g = here ∙ simp (eq-eqb d' (d + 1) f, eq-eqb r (device % u) g)
 
-  pub adapter_depth : (device d' : ℕ) → d' ≡ depth_of device → (d' ≡ d + 1 → ⊥) → adapter_beneath r device ≡ adapter.None
+  pub adapter_depth : (device d' : ℕ) → d' ≡ depth_of device → (d' ≡ d + 1 → ⊥) → adapter_beneath r device ≡ None
   unfolding adapter_beneath
   adapter_depth device d' f n = simp (ne_eqb (depth_of device) (depth_of r + 1) (λ z. n (f ∙ z ∙ ap (λ m. m + 1) (sym deep))))
 
-  pub adapter_deep : (device : ℕ) → 8 ≤ d → adapter_beneath r device ≡ adapter.None
+  pub adapter_deep : (device : ℕ) → 8 ≤ d → adapter_beneath r device ≡ None
   adapter_deep device h = adapter_depth device (depth_of device) refl (λ z. omega (arith, depth_le device))

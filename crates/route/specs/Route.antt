@@ -1,10 +1,6 @@
 -- Document 01, module 6: routes. A route has a byte for each router on the way, the lowest byte for the first. Assumes nothing.
-use Rattle.std.specs.Prelude.{ℕ, zero, suc, ◌+◌, ◌-◌, ◌*◌, ◌/◌, ◌%◌, ◌^◌, cond, ◌&&◌, eqb}
+use Rattle.std.specs.Prelude.{ℕ, zero, suc, ◌+◌, ◌-◌, ◌*◌, ◌/◌, ◌%◌, ◌^◌, cond, ◌&&◌, eqb, None, Option, Some}
 use Rattle.usb4.specs.Codes.{route_shift}
-use Rattle.route.specs.declared.RouteFound.{RouteFound}
-use Rattle.route.specs.declared.RouteFound.TheVariants as route
-use Rattle.route.specs.declared.AdapterFound.{AdapterFound}
-use Rattle.route.specs.declared.AdapterFound.TheVariants as adapter
 
 -- of the k lowest bytes those up to the last that is not 0
 unfoldable pub used_bytes : ℕ → ℕ → ℕ
@@ -16,19 +12,19 @@ unfoldable pub depth_of : ℕ → ℕ
 depth_of r = used_bytes 8 r
 
 -- the last byte dropped; none at depth 0
-unfoldable pub upstream_route : ℕ → RouteFound
-upstream_route r = cond (eqb (depth_of r) 0) route.None (route.Route (r % 2 ^ (route_shift * (depth_of r - 1))))
+unfoldable pub upstream_route : ℕ → Option ℕ
+upstream_route r = cond (eqb (depth_of r) 0) None (Some (r % 2 ^ (route_shift * (depth_of r - 1))))
 
 -- the adapter as one byte more (a route is below that byte, so the Rust's `|` adds); none at depth 8
-unfoldable pub downstream_route : ℕ → ℕ → RouteFound
-downstream_route r a = cond (eqb (depth_of r) 8) route.None (route.Route (r + a * 2 ^ (route_shift * depth_of r)))
+unfoldable pub downstream_route : ℕ → ℕ → Option ℕ
+downstream_route r a = cond (eqb (depth_of r) 8) None (Some (r + a * 2 ^ (route_shift * depth_of r)))
 
 -- a device one deeper, whose lower bytes are the route: its last byte is the adapter
-unfoldable pub adapter_beneath : ℕ → ℕ → AdapterFound
+unfoldable pub adapter_beneath : ℕ → ℕ → Option ℕ
 adapter_beneath r device =
     cond (eqb (depth_of device) (depth_of r + 1) && eqb r (device % 2 ^ (route_shift * depth_of r)))
-    (adapter.Adapter (device / 2 ^ (route_shift * depth_of r) % 256)) adapter.None
+    (Some (device / 2 ^ (route_shift * depth_of r) % 256)) None
 
 -- `downstream_adapter` of a router of domain m at route r, for a device of domain n: none where the domains differ
-unfoldable pub downstream_adapter : ℕ → ℕ → ℕ → ℕ → AdapterFound
-downstream_adapter m r n device = cond (eqb m n) (adapter_beneath r device) adapter.None
+unfoldable pub downstream_adapter : ℕ → ℕ → ℕ → ℕ → Option ℕ
+downstream_adapter m r n device = cond (eqb m n) (adapter_beneath r device) None

@@ -4,22 +4,23 @@
 ghost use Rattle.std.specs.Prelude.{ℕ, ◌≡◌};
 ghost use Rattle.tables.specs.Rows.{device_in, router_from};
 ghost use Rattle.tables.specs.Packed.{upstream_by, device_word, devices_in};
-ghost use Rattle.tables.specs.Found.{upstream_outcome, device_row, device_found, router_found};
+ghost use Rattle.tables.specs.Found.{upstream_outcome, device_row, device_found};
 ghost use Rattle.refusal.specs.declared.Site.{Site};
 
-use tables::{DeviceFacts, DeviceFound, RouterFound, Upstream};
+use refusal::FieldError;
+use tables::DeviceFacts;
 
 // An upstream adapter by its code.
-fn upstream_by(code: u64) -> Upstream
+fn upstream_by(code: u64) -> Result<Option<u8>, FieldError>
     ensures { (s : Site) → upstream_outcome s result ≡ upstream_by s code }
 {
     if code < 1 {
-        return Upstream::None;
+        return Ok(None);
     }
     if code < 2 {
-        return Upstream::NoField;
+        return Err(FieldError::NoField);
     }
-    Upstream::Adapter(((code - 2) % 256) as u8)
+    Ok(Some(((code - 2) % 256) as u8))
 }
 
 // The device that a word of each table holds.
@@ -36,36 +37,36 @@ fn device_of(route: u64, mark: u64) -> DeviceFacts
 }
 
 // The device at a place.
-pub fn find_device(routes: &[u64], marks: &[u64], place: usize) -> DeviceFound
+pub fn find_device(routes: &[u64], marks: &[u64], place: usize) -> Option<DeviceFacts>
     ensures { device_found place result ≡ device_in (devices_in routes.now marks.now) place }
 {
     if routes.len() <= place {
-        return DeviceFound::Nowhere;
+        return None;
     }
     if marks.len() <= place {
-        return DeviceFound::Nowhere;
+        return None;
     }
-    DeviceFound::Device(device_of(routes[place], marks[place]))
+    Some(device_of(routes[place], marks[place]))
 }
 
 // The first router of a domain at a route.
-pub fn find_router(routes: &[u64], marks: &[u64], domain: u32, route: u64) -> RouterFound
-    ensures { router_found result ≡ router_from 0 (devices_in routes.now marks.now) domain route }
+pub fn find_router(routes: &[u64], marks: &[u64], domain: u32, route: u64) -> Option<usize>
+    ensures { result ≡ router_from 0 (devices_in routes.now marks.now) domain route }
 {
     let mut i: usize = 0;
     while i < routes.len() {
         if marks.len() <= i {
-            return RouterFound::Nowhere;
+            return None;
         }
         if routes[i] == route {
             let mark = marks[i];
             if mark / 281474976710656 % 16 == 1 {
                 if mark % 4294967296 == domain as u64 {
-                    return RouterFound::Place(i);
+                    return Some(i);
                 }
             }
         }
         i += 1;
     }
-    RouterFound::Nowhere
+    None
 }

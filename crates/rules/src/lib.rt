@@ -5,7 +5,7 @@ ghost use Rattle.std.specs.Prelude.{◌≡◌};
 ghost use Rattle.survey.specs.Words.{size_of};
 ghost use Rattle.survey.specs.Rules.{good_device, good_adapter, good_register, may_stand, step_of};
 
-use survey::{Step, Under};
+use survey::Under;
 
 // The words of the group with head w: a device and a register have four, any other one.
 pub fn group_size(w: u32) -> usize
@@ -84,15 +84,15 @@ fn may_stand(u: Under, path: u32, offset: u32) -> bool
 }
 
 // What the group with this head word, and this word two behind it, leads to.
-pub fn advance(u: Under, w: u32, vs: u32) -> Step
+pub fn advance(u: Under, w: u32, vs: u32) -> Option<Under>
     ensures { result ≡ step_of u w vs }
 {
     let kind = w / 268435456 % 16;
     if kind == 3 {
         if !good_device(w) {
-            return Step::Broken;
+            return None;
         }
-        return Step::On(Under {
+        return Some(Under {
             begun: true,
             registers: w / 2 % 2 == 1,
             paths: false,
@@ -102,12 +102,12 @@ pub fn advance(u: Under, w: u32, vs: u32) -> Step
     }
     if kind == 4 {
         if !u.begun {
-            return Step::Broken;
+            return None;
         }
         if !good_adapter(w) {
-            return Step::Broken;
+            return None;
         }
-        return Step::On(Under {
+        return Some(Under {
             begun: true,
             registers: w / 256 % 2 == 1,
             paths: w / 512 % 4 == 1,
@@ -116,17 +116,17 @@ pub fn advance(u: Under, w: u32, vs: u32) -> Step
         });
     }
     if kind != 5 {
-        return Step::Broken;
+        return None;
     }
     if !good_register(w, vs) {
-        return Step::Broken;
+        return None;
     }
     let path = w / 65536 % 2;
     let offset = w % 65536;
     if !may_stand(u, path, offset) {
-        return Step::Broken;
+        return None;
     }
-    Step::On(Under {
+    Some(Under {
         begun: u.begun,
         registers: u.registers,
         paths: u.paths,

@@ -4,16 +4,18 @@ use native.Mathlib.Omega.{arith}
 use native.Mathlib.Nat.{add-zero, eq-or-lt_of_le}
 use native.Mathlib.Numerals.{add-one}
 use mathlib.Core.Path.{◌≡◌, refl, ◌∙◌, ap, sym}
-use mathlib.Core.Bool.{Bool, true, false, cond, not}
-use mathlib.Core.Logic.{⊎_elim}
+use mathlib.Core.Bool.{Bool, true, false, cond, not, ◌&&◌}
+use mathlib.Core.Logic.{⊎_elim, ◌⊎◌, inl, inr}
 use mathlib.Core.List.{List, [], ◌∷◌}
 use lib.ListN.{length, get_or, take, drop, drop_of_length-le, length-drop}
 use lib.Seq.{drop-cons, get_or-drop, take_all, drop-drop, length-take-le, take-nil}
-use lib.Dec.{eqb}
+use lib.Dec.{eqb, leb}
 use native.Mathlib.Decide.{dec_lt}
-use borrow.Author.Tests.{ne_eqb, not-true}
-use Rattle.scan.specs.Scan.{is_space, is_line_feed, is_not, before, place_from, TokenAt, on_first, pieces, filled, tokens, ended, lines}
+use borrow.Author.Tests.{ne_eqb, not-true, le-leb, lt-leb}
+use Rattle.scan.specs.Scan.{is_space, is_line_feed, is_not, before, place_from, TokenAt, part, on_first, pieces, filled, tokens, ended, lines}
 use Rattle.scan.specs.declared.Span.{Span}
+use Rattle.std.proofs.Common.{Option, None, Some, Bor, slice_range, MatchOption}
+use Rattle.std.specs.Option.{unwrap_or}
 
 module _ (p : ℕ → Bool) (s : List ℕ) (i : ℕ) where
   -- the byte at i is the first
@@ -29,6 +31,26 @@ module _ (p : ℕ → Bool) (s : List ℕ) (i : ℕ) where
   pub place_end : length s ≤ i → place_from p s i ≡ i
   unfolding place_from before
   place_end h = rw (drop_of_length-le s h) (omega arith)
+
+-- a span in the text, and one that isn't
+module _ (s : List ℕ) (t : Span) where
+  pub part_inside : t.start ≤ t.end → t.end ≤ length s → part s t ≡ take (t.end - t.start) (drop t.start s)
+  unfolding part
+  part_inside h k = simp (le-leb _ _ h, le-leb _ _ k)
+
+  pub part_outside : (t.end < t.start) ⊎ (length s < t.end) → part s t ≡ []
+  unfolding part
+  part_outside (inl h) = simp (lt-leb _ _ h)
+  part_outside (inr h) = go (leb t.start t.end)
+    where
+      go : (b : Bool) → cond (b && leb t.end (length s)) (take (t.end - t.start) (drop t.start s)) [] ≡ []
+      go true = simp (lt-leb t.end (length s) h)
+      go false = refl
+
+  -- what `get` gives, or an empty part
+  pub part_got : (q : Option (Bor (List ℕ))) (e : Bor (List ℕ)) → e.now ≡ [] → MatchOption q ((t.end < t.start) ⊎ (length s < t.end)) (λ r. (t.start ≤ t.end) × (t.end ≤ length s) × (r.now ≡ slice_range s t.start t.end) × (length r.now + t.start ≡ t.end)) → (unwrap_or q e).now ≡ part s t
+  part_got None e n h = n ∙ sym (part_outside h)
+  part_got (Some r) e n h = h.2 ∙ sym (part_inside h.0 h.1)
 
 pub space_above : (b : ℕ) → 32 < b → false ≡ is_space b
 unfolding is_space
@@ -246,6 +268,10 @@ pub record Nth (s : List ℕ) (k st en : ℕ) : Type 0 where
   pub next : tokens (drop en s) ≡ drop (suc k) (tokens s)
   pub there : st < length s → k < length (tokens s)
   pub missing : length s ≤ st → length (tokens s) ≤ k
+
+-- the part where token k stands
+pub part_nth : {s : List ℕ} {k : ℕ} (t : Span) → Nth s k t.start t.end → part s t ≡ get_or (tokens s) k []
+part_nth t n = part_inside _ t n.ordered n.within ∙ n.text
 
 module _ (s : List ℕ) (k at st en : ℕ) (starts : st ≡ place_from (is_not is_space) s at) (ends : en ≡ place_from is_space s st) (inside : at ≤ length s) (here : tokens (drop at s) ≡ drop k (tokens s)) where
   start_in : st ≤ length s

@@ -1,5 +1,5 @@
 -- Document 01, module 3: lines and their tokens; bytes above 127. Assumes nothing.
-use Rattle.std.specs.Prelude.{ℕ, suc, ◌+◌, Bool, cond, not, ◌||◌, List, [], ◌∷◌, eqb, ltb, drop, ◌≡◌}
+use Rattle.std.specs.Prelude.{ℕ, suc, ◌+◌, ◌-◌, Bool, cond, not, ◌||◌, ◌&&◌, List, [], ◌∷◌, eqb, leb, ltb, length, take, drop, ◌≡◌}
 use Rattle.scan.specs.declared.Span.{Span}
 
 -- tab, LF, FF, CR, space
@@ -27,6 +27,10 @@ place_from p s i = i + before p (drop i s)
 -- t is the first token from i on: from the first byte that is no separator up to the next separator; empty at the end where there is none
 abbrev pub TokenAt : List ℕ → ℕ → Span → Type 0
 TokenAt s i t = (t.start ≡ place_from (is_not is_space) s i) × (t.end ≡ place_from is_space s t.start)
+
+-- the part of s that t says; empty where t doesn't lie in s
+unfoldable pub part : List ℕ → Span → List ℕ
+part s t = cond (leb t.start t.end && leb t.end (length s)) (take (t.end - t.start) (drop t.start s)) []
 
 -- a byte before the first of the pieces
 unfoldable pub on_first : ℕ → List (List ℕ) → List (List ℕ)

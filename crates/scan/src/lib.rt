@@ -1,7 +1,8 @@
 #![tactic(auto)]
 
-ghost use Rattle.std.specs.Prelude.{◌≤◌, ◌<◌, ◌≡◌, length};
-ghost use Rattle.scan.specs.Scan.{is_space, is_not, is_line_feed, is_high, place_from, TokenAt};
+ghost use Rattle.std.specs.Prelude.{ℕ, Bool, ◌≤◌, ◌<◌, ◌≡◌, length};
+ghost use Rattle.scan.specs.Scan.{is_space, is_not, is_line_feed, is_high, place_from, TokenAt, part};
+ghost use Rattle.scan.specs.Work.{Tests};
 
 // A part of a text, from `start` up to `end`; empty where there is none.
 #[derive(Clone, Copy)]
@@ -32,27 +33,15 @@ fn is_space(b: u8) -> bool
     b == 32
 }
 
-// The first place from `at` on that holds a separator, or the end; `at` itself past the end.
-fn token_end(s: &[u8], at: usize) -> usize
-    ensures { result ≡ place_from is_space s.now at }
+// The first place from `at` on that holds a byte that `sought` takes, or the end; `at` itself past the end.
+fn place<F: Fn(u8) -> bool>(s: &[u8], at: usize, sought: F) -> usize
+    requires { F.IsAlwaysCallable sought }
+    ensures { (p : ℕ → Bool) → Tests (F.post sought) p → result ≡ place_from p s.now at }
 {
     let mut i = at;
+    // As a for, over a range or over the rest of the slice, a line that is read by its tokens took a quarter longer.
     while i < s.len() {
-        if is_space(s[i]) {
-            return i;
-        }
-        i += 1;
-    }
-    i
-}
-
-// The first place from `at` on that holds no separator, or the end; `at` itself past the end.
-fn token_start(s: &[u8], at: usize) -> usize
-    ensures { result ≡ place_from (is_not is_space) s.now at }
-{
-    let mut i = at;
-    while i < s.len() {
-        if !is_space(s[i]) {
+        if sought(s[i]) {
             return i;
         }
         i += 1;
@@ -64,23 +53,23 @@ fn token_start(s: &[u8], at: usize) -> usize
 pub fn token(s: &[u8], at: usize) -> Span
     ensures { TokenAt s.now at result }
 {
-    let start = token_start(s, at);
-    let end = token_end(s, start);
+    let start = place(s, at, |b| !is_space(b));
+    let end = place(s, start, is_space);
     Span { start, end }
+}
+
+// The part of a text that a span says; empty where the span doesn't lie in the text.
+pub fn part(s: &[u8], t: Span) -> &[u8]
+    ensures { result.now ≡ part s.now t }
+{
+    s.get(t.start..t.end).unwrap_or(&[])
 }
 
 // The first place from `at` on that holds LF, or the end; `at` itself past the end.
 pub fn line_end(s: &[u8], at: usize) -> usize
     ensures { result ≡ place_from is_line_feed s.now at }
 {
-    let mut i = at;
-    while i < s.len() {
-        if s[i] == 10 {
-            return i;
-        }
-        i += 1;
-    }
-    i
+    place(s, at, |b| b == 10)
 }
 
 // The larger of two bytes.
@@ -95,10 +84,8 @@ fn largest(s: &[u8]) -> u8
     ensures { result < 128 → place_from is_high s.now 0 ≡ length s.now }
 {
     let mut top: u8 = 0;
-    let mut i: usize = 0;
-    while i < s.len() {
-        top = larger(top, s[i]);
-        i += 1;
+    for &b in s {
+        top = larger(top, b);
     }
     top
 }
@@ -110,12 +97,5 @@ pub fn first_high(s: &[u8]) -> usize
     if largest(s) < 128 {
         return s.len();
     }
-    let mut i = 0;
-    while i < s.len() {
-        if 127 < s[i] {
-            return i;
-        }
-        i += 1;
-    }
-    i
+    place(s, 0, |b| 127 < b)
 }

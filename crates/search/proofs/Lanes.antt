@@ -1,9 +1,10 @@
 -- Laws on the word of an adapter, and on whether it is a lane. Assumes nothing.
+use Rattle.std.specs.Prelude.{Err, None, Ok, Option, Result, Some}
 use Prim.Native.Nat.{ℕ, zero, suc, ◌/◌, ◌%◌}
 use mathlib.Core.Bool.{Bool, true, false, cond}
 use mathlib.Core.Path.{◌≡◌, refl, sym, ap, ◌∙◌, subst}
 use mathlib.Core.List.{List}
-use mathlib.Core.Option.{some, none-ne-some, some-injective}
+use Rattle.std.proofs.lemmas.Option.{none-some, same_Some}
 use native.Mathlib.Omega.{arith}
 use lib.Dec.{eqb}
 use borrow.Author.Tests.{ne_eqb}
@@ -14,49 +15,43 @@ use Rattle.refusal.specs.declared.Fault.TheVariants.{NoField}
 use Rattle.usb4.specs.declared.AdapterType.{AdapterType}
 use Rattle.usb4.specs.declared.Speed.TheVariants as speed
 use Rattle.state.specs.State.{speed_outcome}
-use Rattle.state.specs.declared.SpeedFound.{SpeedFound}
-use Rattle.state.specs.declared.SpeedFound.TheVariants as speed-found
 use Rattle.adapter.specs.Adapter.{AdapterRow, facts_row, is_lane, max_hop_outcome}
 use Rattle.adapter.specs.declared.Facts.{Facts}
-use Rattle.adapter.specs.declared.MaxHop.{MaxHop}
-use Rattle.adapter.specs.declared.MaxHop.TheVariants as most
 use Rattle.tables.specs.Packed.{type_by, speed_by, number_by, adapter_word}
 use Rattle.tables.specs.Found.{AdapterSought, adapter_found}
-use Rattle.tables.specs.declared.AdapterFound.TheVariants as adapter
 use Rattle.tables.proofs.Laws.{facts_made}
-use Rattle.search.specs.Lanes.{lane_if, lane_found, LaneSought}
+use Rattle.search.specs.Lanes.{lane_if, LaneSought}
 use Rattle.search.specs.Work.{WordSought}
-use Rattle.search.specs.declared.WordAt.{WordAt}
-use Rattle.search.specs.declared.WordAt.TheVariants as word
-use Rattle.search.specs.declared.LaneAt.{LaneAt}
-use Rattle.search.specs.declared.LaneAt.TheVariants as lane
+use Rattle.usb4.specs.declared.Speed.{Speed}
+use Rattle.refusal.specs.declared.FieldError.{FieldError}
+use Rattle.refusal.specs.declared.FieldError.TheVariants as field
 
 -- ---- the word
 
-pub word_nowhere : (t : List ℕ) (p a : ℕ) → AdapterSought t p a adapter.Nowhere → WordSought t p a word.Nowhere
+pub word_nowhere : (t : List ℕ) (p a : ℕ) → AdapterSought t p a None → WordSought t p a None
 word_nowhere t p a s = record { found = λ w e. absurd (let z : ◌≡◌ {A = ℕ} 0 1 = cc in omega arith); missing = λ e. s }
 
-pub word_found : (t : List ℕ) (p a w : ℕ) → ((f : Facts) → facts_row (w / 281474976710656) f ≡ adapter_word w → AdapterSought t p a (adapter.Adapter f)) → WordSought t p a (word.Word w)
+pub word_found : (t : List ℕ) (p a w : ℕ) → ((f : Facts) → facts_row (w / 281474976710656) f ≡ adapter_word w → AdapterSought t p a (Some f)) → WordSought t p a (Some w)
 word_found t p a w s = record { found = λ v e f g. s f (subst (λ k. facts_row (k / 281474976710656) f ≡ adapter_word k) (let z : v ≡ w = cc in z) g); missing = λ e. absurd (let z : ◌≡◌ {A = ℕ} 0 1 = cc in omega arith) }
 
 -- ---- there is an adapter that says the same as a word
 
-speed_of_lem : (n : ℕ) → (r : SpeedFound) × ((s : Site) → speed_outcome s r ≡ speed_by s n)
+speed_of_lem : (n : ℕ) → (r : Result Speed FieldError) × ((s : Site) → speed_outcome s r ≡ speed_by s n)
 unfolding speed_by speed_outcome
 speed_of_lem n = go (eqb n 1) (eqb n 2) (eqb n 3) (eqb n 4)
   where
-    go : (a b c d : Bool) → (r : SpeedFound) × ((s : Site) → speed_outcome s r ≡ cond a (value speed.Gen2) (cond b (value speed.Gen3) (cond c (value speed.Gen4) (cond d (refusal_of (NoField s)) (value speed.Unknown)))))
-    go true b c d = (speed-found.Speed speed.Gen2, λ s. refl)
-    go false true c d = (speed-found.Speed speed.Gen3, λ s. refl)
-    go false false true d = (speed-found.Speed speed.Gen4, λ s. refl)
-    go false false false true = (speed-found.NoField, λ s. refl)
-    go false false false false = (speed-found.Speed speed.Unknown, λ s. refl)
+    go : (a b c d : Bool) → (r : Result Speed FieldError) × ((s : Site) → speed_outcome s r ≡ cond a (value speed.Gen2) (cond b (value speed.Gen3) (cond c (value speed.Gen4) (cond d (refusal_of (NoField s)) (value speed.Unknown)))))
+    go true b c d = (Ok speed.Gen2, λ s. refl)
+    go false true c d = (Ok speed.Gen3, λ s. refl)
+    go false false true d = (Ok speed.Gen4, λ s. refl)
+    go false false false true = ((Err field.NoField), λ s. refl)
+    go false false false false = (Ok speed.Unknown, λ s. refl)
 
-most_of : (n : ℕ) → (r : MaxHop) × ((s : Site) → max_hop_outcome s r ≡ number_by s n)
+most_of : (n : ℕ) → (r : Result (Option ℕ) FieldError) × ((s : Site) → max_hop_outcome s r ≡ number_by s n)
 unfolding number_by max_hop_outcome
-most_of zero = (most.None, λ s. refl)
-most_of (suc zero) = (most.NoField, λ s. refl)
-most_of (suc (suc n)) = (most.Hop n, λ s. refl)
+most_of zero = ((Ok None), λ s. refl)
+most_of (suc zero) = ((Err field.NoField), λ s. refl)
+most_of (suc (suc n)) = (Ok (Some n), λ s. refl)
 
 facts_in : (w : ℕ) → (f : Facts) × (facts_row (w / 281474976710656) f ≡ adapter_word w)
 facts_in w = (_, facts_made w _ _ _ _ refl refl (speed_of_lem (w / 256 % 16)).1 (most_of (w / 1048576 % 1048576)).1)
@@ -87,30 +82,28 @@ type_other n h =
     (either_no_lane (eqb n 11) _ _ refl refl))))))))))
 
 module _ (t : List ℕ) (p a : ℕ) where
-  pub lane_nowhere : AdapterSought t p a adapter.Nowhere → LaneSought t p a lane.Nowhere
-  unfolding adapter_found lane_found lane_if
-  lane_nowhere s = record { first = λ l o. ap lane_if (s.first l o); past = λ l. refl; held = λ b e. absurd (none-ne-some b e) }
+  pub lane_nowhere : AdapterSought t p a None → LaneSought t p a None
+  unfolding adapter_found lane_if
+  lane_nowhere s = record { first = λ l o. ap lane_if (s.first l o); past = λ l. refl; held = λ b e. absurd (none-some b e) }
 
   -- by an answer that says what the word does
-  module _ (r : WordAt) (s : WordSought t p a r) (w : ℕ) (e : r ≡ word.Word w) where
-    lane_by_lem : (b : Bool) (x : LaneAt) → lane_found x ≡ some b → is_lane (type_by (w / 65536 % 16)) ≡ b → LaneSought t p a x
+  module _ (r : Option ℕ) (s : WordSought t p a r) (w : ℕ) (e : r ≡ Some w) where
+    lane_by_lem : (b : Bool) (x : Option Bool) → x ≡ Some b → is_lane (type_by (w / 65536 % 16)) ≡ b → LaneSought t p a x
     unfolding adapter_found lane_if facts_row adapter_word
     lane_by_lem b x g h =
         let f = facts_in w in
         let y = s.found w e f.0 f.1 in
         let k : is_lane f.0.kind ≡ b = ap (λ (z : AdapterRow). is_lane z.kind) f.1 ∙ h in
         record {
-          first = λ l o. g ∙ ap some (sym k) ∙ ap lane_if (y.first l o);
+          first = λ l o. g ∙ ap Some (sym k) ∙ ap lane_if (y.first l o);
           past = λ l. absurd (let z = y.past l in let v : ◌≡◌ {A = ℕ} 0 1 = cc in omega arith);
           held = λ c q.
               let v = y.held (facts_row p f.0) refl in
-              (v.0, v.1, ap (λ (z : AdapterRow). z.device) v.2, ap (λ (z : AdapterRow). z.number) v.2 ∙ v.3, ap (λ (z : AdapterRow). is_lane z.kind) v.2 ∙ k ∙ some-injective b c (sym g ∙ q));
+              (v.0, v.1, ap (λ (z : AdapterRow). z.device) v.2, ap (λ (z : AdapterRow). z.number) v.2 ∙ v.3, ap (λ (z : AdapterRow). is_lane z.kind) v.2 ∙ k ∙ same_Some b c (sym g ∙ q));
         }
 
-    pub lane_found_lem : w / 65536 % 16 ≡ 2 → LaneSought t p a lane.Lane
-    unfolding lane_found
-    lane_found_lem q = lane_by_lem true lane.Lane refl (type_lane (w / 65536 % 16) q)
+    pub lane_found_lem : w / 65536 % 16 ≡ 2 → LaneSought t p a (Some true)
+    lane_found_lem q = lane_by_lem true (Some true) refl (type_lane (w / 65536 % 16) q)
 
-    pub lane_other : (w / 65536 % 16 ≡ 2 → ⊥) → LaneSought t p a lane.Other
-    unfolding lane_found
-    lane_other q = lane_by_lem false lane.Other refl (type_other (w / 65536 % 16) q)
+    pub lane_other : (w / 65536 % 16 ≡ 2 → ⊥) → LaneSought t p a (Some false)
+    lane_other q = lane_by_lem false (Some false) refl (type_other (w / 65536 % 16) q)

@@ -3,7 +3,8 @@ use Prim.Native.Nat.{ℕ, ◌+◌, ◌*◌, ◌/◌, ◌%◌, ◌≤◌, ◌<◌
 use mathlib.Core.Bool.{Bool, true, false, ◌&&◌}
 use mathlib.Core.Path.{◌≡◌, refl, sym, ap, subst}
 use mathlib.Core.List.{List, [], ◌∷◌}
-use mathlib.Core.Option.{Option, none, some, none-ne-some}
+use Rattle.std.specs.Prelude.{Option, None, Some}
+use Rattle.std.proofs.lemmas.Option.{none-some}
 use native.Mathlib.Omega.{arith}
 use native.Mathlib.Decide.{dec_lt}
 use lib.Dec.{eqb}
@@ -12,42 +13,42 @@ use borrow.Author.Tests.{ne_eqb}
 use Rattle.tables.specs.Rows.{entry_in}
 use Rattle.tables.specs.Packed.{entry_word, entries_in, entry_unit, Sorted}
 use Rattle.tables.specs.Found.{Boundary, EntrySought, entry_found}
-use Rattle.tables.specs.declared.EntryAt.TheVariants as entry
 use Rattle.tables.proofs.Laws.{key_of, entry_missing, entry_found_lem}
 use Rattle.search.specs.Ahead.{HopAhead}
-use Rattle.search.specs.declared.HopAt.{HopAt}
-use Rattle.search.specs.declared.HopAt.TheVariants as hop
+use Rattle.search.specs.declared.HopEntry.{HopEntry}
+use Rattle.adapter.specs.Paths.{entry_out}
+use Rattle.search.specs.Ahead.{hop_entry}
 
 -- what is found, if it is from h on and has its entry
-Ahead : List ℕ → ℕ → ℕ → ℕ → HopAt → Type 0
-Ahead t p a h (hop.Hop k o x) = (h ≤ k) × EntrySought t p a k (entry.Entry o x)
-Ahead t p a h hop.None = Unit {0}
+Ahead : List ℕ → ℕ → ℕ → ℕ → Option HopEntry → Type 0
+Ahead t p a h (Some e) = (h ≤ e.hop) × EntrySought t p a e.hop (Some (entry_out e.out_adapter e.out_hop))
+Ahead t p a h None = Unit {0}
 
-hop_same : {i o x k o' x' : ℕ} → hop.Hop i o x ≡ hop.Hop k o' x' → i ≡ k
+hop_same : {i o x k o' x' : ℕ} → Some (hop_entry i o x) ≡ Some (hop_entry k o' x') → i ≡ k
 hop_same e = ap number e
   where
-    number : HopAt → ℕ
-    number (hop.Hop n o x) = n
-    number hop.None = 0
+    number : Option HopEntry → ℕ
+    number (Some e) = e.hop
+    number None = 0
 
-no_hop : {k o x : ℕ} → hop.None ≡ hop.Hop k o x → ⊥
-no_hop {k} e = none-ne-some k (ap number e)
+no_hop : {k o x : ℕ} → None ≡ Some (hop_entry k o x) → ⊥
+no_hop {k} e = none-some k (ap number e)
   where
-    number : HopAt → Option ℕ
-    number (hop.Hop n o x) = some n
-    number hop.None = none
+    number : Option HopEntry → Option ℕ
+    number (Some e) = Some e.hop
+    number None = None
 
 and_false : (x : Bool) → (x && false) ≡ false
 and_false true = refl
 and_false false = refl
 
 -- an entry's HopID has 16 bits
-pub past_hops : (t : List ℕ) (p a j : ℕ) → 65535 < j → entry_in (entries_in t) p a j ≡ none
+pub past_hops : (t : List ℕ) (p a j : ℕ) → 65535 < j → entry_in (entries_in t) p a j ≡ None
 unfolding entry_in entry_word
 past_hops [] p a j l = refl
 past_hops (w ∷ t) p a j l = rw (ne_eqb (w / 16777216 % 65536) j (λ e. omega arith), and_false (eqb (w / 281474976710656) p && eqb (w / 1099511627776 % 256) a)) (past_hops t p a j l)
 
-pub hop_past : (t : List ℕ) (p a h : ℕ) → 65535 < p → HopAhead t p a h hop.None
+pub hop_past : (t : List ℕ) (p a h : ℕ) → 65535 < p → HopAhead t p a h None
 hop_past t p a h l = record { first = λ q s. absurd (omega arith); over = λ q s. absurd (omega arith); past = λ q. refl; from = λ k o x e. absurd (no_hop e); found = λ k o x e. absurd (no_hop e) }
 
 -- the boundary of a HopID is that of each one after it, up to the key that stands there
@@ -56,30 +57,30 @@ module _ (t : List ℕ) (p a h r : ℕ) (lp : p < 65536) (la : a < 256) (b : Bou
   later j l n = record { within = b.within; below = λ m. omega (arith, b.below m); above = n }
 
   -- no word has the key of a HopID from h on whose key is below that of the word at the boundary
-  skipped : (j : ℕ) → Sorted entry_unit t → h ≤ j → j < 65536 → (r < length t → key_of p a j < get_or t r 0 / 16777216) → entry_in (entries_in t) p a j ≡ none
+  skipped : (j : ℕ) → Sorted entry_unit t → h ≤ j → j < 65536 → (r < length t → key_of p a j < get_or t r 0 / 16777216) → entry_in (entries_in t) p a j ≡ None
   unfolding entry_found
   skipped j s l m n = sym ((entry_missing t p a j r lp la m (later j l (λ q. omega (arith, n q))) (λ q e. omega (arith, n q))).first lp s)
 
-  pub hop_over : (r < length t → get_or t r 0 / 1099511627776 ≡ p * 256 + a → ⊥) → HopAhead t p a h hop.None
+  pub hop_over : (r < length t → get_or t r 0 / 1099511627776 ≡ p * 256 + a → ⊥) → HopAhead t p a h None
   hop_over n = record { first = λ q s k o x e. absurd (no_hop e); over = λ q s e. none_from s; past = λ q. refl; from = λ k o x e. absurd (no_hop e); found = λ k o x e. absurd (no_hop e) }
     where
-      none_from : Sorted entry_unit t → (j : ℕ) → h ≤ j → entry_in (entries_in t) p a j ≡ none
+      none_from : Sorted entry_unit t → (j : ℕ) → h ≤ j → entry_in (entries_in t) p a j ≡ None
       none_from s j l = go (dec_lt j 65536)
         where
-          go : Dec (j < 65536) → entry_in (entries_in t) p a j ≡ none
+          go : Dec (j < 65536) → entry_in (entries_in t) p a j ≡ None
           go (yes m) = skipped j s l m (λ q. omega (arith, b.above q, n q))
           go (no m) = past_hops t p a j (omega arith)
 
-  pub hop_found : r < length t → get_or t r 0 / 1099511627776 ≡ p * 256 + a → HopAhead t p a h (hop.Hop (get_or t r 0 / 16777216 % 65536) (get_or t r 0 / 65536 % 256) (get_or t r 0 % 65536))
+  pub hop_found : r < length t → get_or t r 0 / 1099511627776 ≡ p * 256 + a → HopAhead t p a h (Some (hop_entry (get_or t r 0 / 16777216 % 65536) (get_or t r 0 / 65536 % 256) (get_or t r 0 % 65536)))
   unfolding Ahead
   hop_found l e = record {
     first = λ q s k o x g j m n. skipped j s m (omega (arith, hop_same g)) (λ z. omega (arith, hop_same g));
     over = λ q s g. absurd (no_hop (sym g));
     past = λ q. absurd (omega arith);
-    from = λ k o x g. (subst (λ (u : HopAt). Ahead t p a h u) g there).0;
-    found = λ k o x g. (subst (λ (u : HopAt). Ahead t p a h u) g there).1;
+    from = λ k o x g. (subst (λ (u : Option HopEntry). Ahead t p a h u) g there).0;
+    found = λ k o x g. (subst (λ (u : Option HopEntry). Ahead t p a h u) g there).1;
   }
     where
-      there : Ahead t p a h (hop.Hop (get_or t r 0 / 16777216 % 65536) (get_or t r 0 / 65536 % 256) (get_or t r 0 % 65536))
+      there : Ahead t p a h (Some (hop_entry (get_or t r 0 / 16777216 % 65536) (get_or t r 0 / 65536 % 256) (get_or t r 0 % 65536)))
       there = let above : h ≤ get_or t r 0 / 16777216 % 65536 = omega (arith, b.above l) in
           (above, entry_found_lem t p a (get_or t r 0 / 16777216 % 65536) r lp la (omega arith) (later (get_or t r 0 / 16777216 % 65536) above (λ q. omega arith)) l (omega arith))

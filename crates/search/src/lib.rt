@@ -6,120 +6,102 @@ ghost use Rattle.search.specs.Lanes.{LaneSought};
 ghost use Rattle.search.specs.Work.{WordSought};
 ghost use Rattle.tables.specs.Found.{EntrySought, AdapterSought};
 
-use tables::{AdapterFound, EntryAt};
+use adapter::{EntryOut, Facts};
 
-// A HopID with the out adapter and out HopID of its entry, or there is none.
+// A HopID with the out adapter and out HopID of its entry.
 #[derive(Clone, Copy)]
-pub enum HopAt {
-    Hop {
-        hop: u16,
-        out_adapter: u8,
-        out_hop: u16,
-    },
-    None,
-}
-
-// An adapter's word, or there is none.
-#[derive(Clone, Copy)]
-pub enum WordAt {
-    Word(u64),
-    Nowhere,
-}
-
-// An adapter that is a lane, one of another kind, or there is none.
-#[derive(Clone, Copy)]
-pub enum LaneAt {
-    Lane,
-    Other,
-    Nowhere,
+pub struct HopEntry {
+    pub hop: u16,
+    pub out_adapter: u8,
+    pub out_hop: u16,
 }
 
 // The first entry for a HopID at an adapter of a device.
-pub fn find_entry(entries: &[u64], place: usize, adapter: u8, hop: u16) -> EntryAt
+pub fn find_entry(entries: &[u64], place: usize, adapter: u8, hop: u16) -> Option<EntryOut>
     ensures { EntrySought entries.now place adapter hop result }
 {
     if 65535 < place {
-        return EntryAt::Missing;
+        return None;
     }
     let key = (place as u64) * 16777216 + (adapter as u64) * 65536 + (hop as u64);
     let i = boundary::seek(entries, key * 16777216);
     if entries.len() <= i {
-        return EntryAt::Missing;
+        return None;
     }
     let w = entries[i];
     if w / 16777216 != key {
-        return EntryAt::Missing;
+        return None;
     }
-    EntryAt::Entry {
+    Some(EntryOut {
         out_adapter: (w / 65536 % 256) as u8,
         out_hop: (w % 65536) as u16,
-    }
+    })
 }
 
 // The next HopID of an adapter of a device, from `hop` on, that has an entry, with its first entry.
-pub fn next_hop(entries: &[u64], place: usize, adapter: u8, hop: u16) -> HopAt
+pub fn next_hop(entries: &[u64], place: usize, adapter: u8, hop: u16) -> Option<HopEntry>
     ensures { HopAhead entries.now place adapter hop result }
 {
     if 65535 < place {
-        return HopAt::None;
+        return None;
     }
     let owner = (place as u64) * 256 + (adapter as u64);
     let i = boundary::seek(entries, (owner * 65536 + (hop as u64)) * 16777216);
     if entries.len() <= i {
-        return HopAt::None;
+        return None;
     }
     let w = entries[i];
     if w / 1099511627776 != owner {
-        return HopAt::None;
+        return None;
     }
     let next = (w / 16777216 % 65536) as u16;
     let out_adapter = (w / 65536 % 256) as u8;
     let out_hop = (w % 65536) as u16;
-    HopAt::Hop {
+    Some(HopEntry {
         hop: next,
         out_adapter,
         out_hop,
-    }
+    })
 }
 
 // The word of the adapter of a device with a number.
-fn adapter_word(adapters: &[u64], place: usize, number: u8) -> WordAt
+fn adapter_word(adapters: &[u64], place: usize, number: u8) -> Option<u64>
     ensures { WordSought adapters.now place number result }
 {
     if 65535 < place {
-        return WordAt::Nowhere;
+        return None;
     }
     let key = (place as u64) * 256 + (number as u64);
     let i = boundary::seek(adapters, key * 1099511627776);
     if adapters.len() <= i {
-        return WordAt::Nowhere;
+        return None;
     }
     let w = adapters[i];
     if w / 1099511627776 != key {
-        return WordAt::Nowhere;
+        return None;
     }
-    WordAt::Word(w)
+    Some(w)
 }
 
 // The adapter of a device with a number.
-pub fn find_adapter(adapters: &[u64], place: usize, number: u8) -> AdapterFound
+pub fn find_adapter(adapters: &[u64], place: usize, number: u8) -> Option<Facts>
     ensures { AdapterSought adapters.now place number result }
 {
-    let WordAt::Word(w) = adapter_word(adapters, place, number) else {
-        return AdapterFound::Nowhere;
+    let Some(w) = adapter_word(adapters, place, number) else {
+        return None;
     };
-    AdapterFound::Adapter(facts::facts_of(w))
+    Some(facts::facts_of(w))
 }
 
 // Whether the adapter of a device with a number is a lane: no more of it than a walk asks.
-pub fn find_lane(adapters: &[u64], place: usize, number: u8) -> LaneAt
+pub fn find_lane(adapters: &[u64], place: usize, number: u8) -> Option<bool>
     ensures { LaneSought adapters.now place number result }
 {
-    let WordAt::Word(w) = adapter_word(adapters, place, number) else {
-        return LaneAt::Nowhere;
+    let Some(w) = adapter_word(adapters, place, number) else {
+        return None;
     };
     if w / 65536 % 16 == 2 {
-        return LaneAt::Lane;
+        return Some(true);
     }
-    LaneAt::Other
+    Some(false)
 }

@@ -7,8 +7,8 @@ ghost use Rattle.layout.specs.Description.{descriptions_of};
 ghost use Rattle.listing.specs.After.{after};
 ghost use Rattle.state.specs.State.{has_speed, link_speed, speed_outcome};
 
-use named::{FieldRead, NamedFound};
-use state::SpeedFound;
+use named::NamedAt;
+use refusal::FieldError;
 use usb4::{AdapterType, Speed, State};
 
 // Whether a lane in a state has a speed.
@@ -36,17 +36,17 @@ pub fn link_speed(
     from: usize,
     kind: AdapterType,
     state: State,
-) -> SpeedFound
+) -> Result<Speed, FieldError>
     ensures { (s : Site) → speed_outcome s result ≡ link_speed (descriptions_of descriptions.now) s kind state (after survey.now from).registers }
 {
     let number = usb4::type_number(kind);
     if number != 2 {
-        return SpeedFound::Speed(Speed::Unknown);
+        return Ok(Speed::Unknown);
     }
     if !has_speed(state) {
-        return SpeedFound::Speed(Speed::Unknown);
+        return Ok(Speed::Unknown);
     }
-    let NamedFound::At { register, group } = named::by_name(
+    let Some(NamedAt { register, group }) = named::by_name(
         descriptions,
         survey,
         from,
@@ -54,16 +54,11 @@ pub fn link_speed(
         number,
         b"LANE_ADP_CS_1",
     ) else {
-        return SpeedFound::Speed(Speed::Unknown);
+        return Ok(Speed::Unknown);
     };
     let value = layout::word_at(survey, register + 3);
-    let FieldRead::Value(code) = named::field_value(
-        descriptions,
-        group,
-        value,
-        b"Current Link Speed",
-    ) else {
-        return SpeedFound::NoField;
+    let Ok(code) = named::field_value(descriptions, group, value, b"Current Link Speed") else {
+        return Err(FieldError::NoField);
     };
-    SpeedFound::Speed(codes::speed_of(code))
+    Ok(codes::speed_of(code))
 }

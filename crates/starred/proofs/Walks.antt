@@ -1,8 +1,8 @@
 -- The starred rows that walk: what their surveys load to, by computing, and what the walks come to. Assumes nothing.
 use Prim.Native.Nat.{ℕ}
 use mathlib.Core.Path.{◌≡◌, refl, ap, ◌∙◌}
-use mathlib.Core.List.{List, [], ◌∷◌, Option-to_list}
-use mathlib.Core.Option.{Option, none}
+use mathlib.Core.List.{List, [], ◌∷◌}
+use Rattle.std.specs.Prelude.{Option, None}
 use Rattle.refusal.specs.Outcome.{Outcome, refused, value, bind}
 use Rattle.refusal.specs.Refusal.{refusal_of, at}
 use Rattle.util.specs.Bits.{bits_of}
@@ -19,7 +19,7 @@ use Rattle.survey.specs.Rules.{good_device, good_adapter, good_register, after_d
 use Rattle.survey.specs.Devices.{register_in, with_register, with_adapter, with_device, with_group, gather, devices_of, read_survey}
 use Rattle.named.specs.Named.{named, or_else, having_name, with_register as having_register, by_name, sited, wanted_field, wanted_flag}
 use Rattle.state.specs.State.{by_offset, both_set, enabled_if, by_flag, by_flags, lane_state, of_kind, state_of, has_speed, speed_in, link_speed}
-use Rattle.adapter.specs.Adapter.{AdapterRow, third_value, kind_of, registers_of, indices_from, last_of, between, find_cap, found, is_lane, is_lane0, lane0_of, lane1_of, min_hop, narrow, max_hop_in, max_hop, parse_state, adapter_site, few_registers, row_of, decode_of}
+use Rattle.adapter.specs.Adapter.{third_value, kind_of, registers_of, indices_from, last_of, between, find_cap, is_lane, is_lane0, lane0_of, lane1_of, min_hop, narrow, max_hop_in, max_hop, parse_state, adapter_site, few_registers, row_of, decode_of}
 use Rattle.adapter.specs.Paths.{entry_in, entry_of, with_entry, entries_from, entries_by, entries_of}
 use Rattle.numbering.specs.Numbered.{numbered}
 use Rattle.load.specs.Loading.{itself, and_then, owned, own_rows, load_adapter, load_adapters, router_cs1, upstream_in, device_row, device_rows, fitting, fits, no_registers, load_device, load_from, loaded}
@@ -42,11 +42,11 @@ unfoldable apart_rows : Rows
 apart_rows = record { entries = example_rows.entries; adapters = example_rows.adapters; devices = router_row 1 3 ∷ router_row 0x010001 1 ∷ [] }
 
 pub ring_loads : bind (read_survey ring) (λ devices. load_from ours 0 devices) ≡ value ring_rows
-unfolding ring ring_rows entry plain_row router_row example_rows bind refusal_of at bits_of bytes_of type_of lane_state_of device_kind_of register_of keep is is_none kind_fits cap_fits vs_fits fits_naming only naming lower alike field_is find_field one_bit find_flag value_in is_set flag_in bits_named plain capped ours is_long size_of groups_of good_device good_adapter good_register after_device after_adapter may_stand after_register step_of step_by size_by on_step first_bad check_of register_in with_register with_adapter with_device with_group gather devices_of read_survey named or_else having_name having_register by_name sited wanted_field wanted_flag by_offset both_set enabled_if by_flag by_flags lane_state of_kind state_of has_speed speed_in link_speed third_value kind_of registers_of indices_from last_of between find_cap found is_lane is_lane0 lane0_of lane1_of min_hop narrow max_hop_in max_hop parse_state adapter_site few_registers row_of decode_of entry_in entry_of with_entry entries_from entries_by entries_of joined itself and_then owned own_rows load_adapter load_adapters router_cs1 upstream_in device_row device_rows numbered fitting fits no_registers load_device load_from
+unfolding ring ring_rows entry plain_row router_row example_rows bind refusal_of at bits_of bytes_of type_of lane_state_of device_kind_of register_of keep is is_none kind_fits cap_fits vs_fits fits_naming only naming lower alike field_is find_field one_bit find_flag value_in is_set flag_in bits_named plain capped ours is_long size_of groups_of good_device good_adapter good_register after_device after_adapter may_stand after_register step_of step_by size_by on_step first_bad check_of register_in with_register with_adapter with_device with_group gather devices_of read_survey named or_else having_name having_register by_name sited wanted_field wanted_flag by_offset both_set enabled_if by_flag by_flags lane_state of_kind state_of has_speed speed_in link_speed third_value kind_of registers_of indices_from last_of between find_cap is_lane is_lane0 lane0_of lane1_of min_hop narrow max_hop_in max_hop parse_state adapter_site few_registers row_of decode_of entry_in entry_of with_entry entries_from entries_by entries_of joined itself and_then owned own_rows load_adapter load_adapters router_cs1 upstream_in device_row device_rows numbered fitting fits no_registers load_device load_from
 ring_loads = refl
 
 apart_loads : bind (read_survey apart) (λ devices. load_from ours 0 devices) ≡ value apart_rows
-unfolding apart apart_rows entry plain_row router_row example_rows bind refusal_of at bits_of bytes_of type_of lane_state_of device_kind_of register_of keep is is_none kind_fits cap_fits vs_fits fits_naming only naming lower alike field_is find_field one_bit find_flag value_in is_set flag_in bits_named plain capped ours is_long size_of groups_of good_device good_adapter good_register after_device after_adapter may_stand after_register step_of step_by size_by on_step first_bad check_of register_in with_register with_adapter with_device with_group gather devices_of read_survey named or_else having_name having_register by_name sited wanted_field wanted_flag by_offset both_set enabled_if by_flag by_flags lane_state of_kind state_of has_speed speed_in link_speed third_value kind_of registers_of indices_from last_of between find_cap found is_lane is_lane0 lane0_of lane1_of min_hop narrow max_hop_in max_hop parse_state adapter_site few_registers row_of decode_of entry_in entry_of with_entry entries_from entries_by entries_of joined itself and_then owned own_rows load_adapter load_adapters router_cs1 upstream_in device_row device_rows numbered fitting fits no_registers load_device load_from
+unfolding apart apart_rows entry plain_row router_row example_rows bind refusal_of at bits_of bytes_of type_of lane_state_of device_kind_of register_of keep is is_none kind_fits cap_fits vs_fits fits_naming only naming lower alike field_is find_field one_bit find_flag value_in is_set flag_in bits_named plain capped ours is_long size_of groups_of good_device good_adapter good_register after_device after_adapter may_stand after_register step_of step_by size_by on_step first_bad check_of register_in with_register with_adapter with_device with_group gather devices_of read_survey named or_else having_name having_register by_name sited wanted_field wanted_flag by_offset both_set enabled_if by_flag by_flags lane_state of_kind state_of has_speed speed_in link_speed third_value kind_of registers_of indices_from last_of between find_cap is_lane is_lane0 lane0_of lane1_of min_hop narrow max_hop_in max_hop parse_state adapter_site few_registers row_of decode_of entry_in entry_of with_entry entries_from entries_by entries_of joined itself and_then owned own_rows load_adapter load_adapters router_cs1 upstream_in device_row device_rows numbered fitting fits no_registers load_device load_from
 apart_loads = refl
 
 -- what the call answers on rows
@@ -55,12 +55,12 @@ answer_on p a h x = bind (asked_adapter x p a) (λ y. walk_from x (record { plac
 
 -- round and round between the two routers
 ring_walks : answer_on 0 2 8 ring_rows ≡ refused 13 []
-unfolding ring_rows apart_rows entry plain_row router_row example_rows bind present asked_device asked_adapter entry_at adapter_in device_in is_router router_from used_bytes depth_of upstream_route downstream_route adapter_beneath downstream_adapter is_upstream route_or upstream_route_of downstream_route_of is_lane adapter_site stand_by stand_at up_by arrive_up down_by arrive_down to_device to_router to_route leads_from leads_by leads turn_by walk_on walk_n hops_n hop_at onward made turned arrive found_at settled walk_from Option-to_list
+unfolding ring_rows apart_rows entry plain_row router_row example_rows bind present asked_device asked_adapter entry_at adapter_in device_in is_router router_from used_bytes depth_of upstream_route downstream_route adapter_beneath downstream_adapter is_upstream route_or upstream_route_of downstream_route_of is_lane adapter_site stand_by stand_at up_by arrive_up down_by arrive_down to_device to_router to_route leads_from leads_by leads turn_by walk_on walk_n hops_n hop_at onward made turned arrive found_at settled walk_from
 ring_walks = refl
 
 -- the router found above is not right above: no path
-apart_walks : answer_on 1 2 8 apart_rows ≡ value none
-unfolding ring_rows apart_rows entry plain_row router_row example_rows bind present asked_device asked_adapter entry_at adapter_in device_in is_router router_from used_bytes depth_of upstream_route downstream_route adapter_beneath downstream_adapter is_upstream route_or upstream_route_of downstream_route_of is_lane adapter_site stand_by stand_at up_by arrive_up down_by arrive_down to_device to_router to_route leads_from leads_by leads turn_by walk_on walk_n hops_n hop_at onward made turned arrive found_at settled walk_from Option-to_list
+apart_walks : answer_on 1 2 8 apart_rows ≡ value None
+unfolding ring_rows apart_rows entry plain_row router_row example_rows bind present asked_device asked_adapter entry_at adapter_in device_in is_router router_from used_bytes depth_of upstream_route downstream_route adapter_beneath downstream_adapter is_upstream route_or upstream_route_of downstream_route_of is_lane adapter_site stand_by stand_at up_by arrive_up down_by arrive_down to_device to_router to_route leads_from leads_by leads turn_by walk_on walk_n hops_n hop_at onward made turned arrive found_at settled walk_from
 apart_walks = refl
 
 module _ (words : List ℕ) (x : Rows) (p a h : ℕ) (loads : bind (read_survey words) (λ devices. load_from ours 0 devices) ≡ value x) where
@@ -71,5 +71,5 @@ module _ (words : List ℕ) (x : Rows) (p a h : ℕ) (loads : bind (read_survey 
 pub ring_row : Holds (walk ring 0 2 8 (refused 13 []))
 ring_row = answered ring ring_rows 0 2 8 ring_loads (refused 13 []) ring_walks
 
-pub apart_row : Holds (walk apart 1 2 8 (value none))
-apart_row = answered apart apart_rows 1 2 8 apart_loads (value none) apart_walks
+pub apart_row : Holds (walk apart 1 2 8 (value None))
+apart_row = answered apart apart_rows 1 2 8 apart_loads (value None) apart_walks

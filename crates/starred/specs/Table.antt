@@ -1,12 +1,10 @@
 -- Document 01, "Lines and routes at the edge": the starred lines, as a table over the definitions. Assumes nothing.
-use Rattle.std.specs.Prelude.{ℕ, ◌^◌, ◌≡◌, List, [], ◌∷◌}
+use Rattle.std.specs.Prelude.{ℕ, ◌^◌, ◌≡◌, List, [], ◌∷◌, Option, None, Some}
 use Prim.Native.String.{String}
-use Rattle.std.proofs.Math.Option.{Option, none, some}
 use Rattle.refusal.specs.Outcome.{Outcome, refused, value}
 use Rattle.util.specs.Bits.{bits_of}
 use Rattle.util.specs.Text.{bytes_of}
 use Rattle.route.specs.Route.{depth_of, upstream_route}
-use Rattle.route.specs.declared.RouteFound.TheVariants.{Route}
 use Rattle.description.specs.Rules.{read_descriptions}
 use Rattle.metadata.specs.Ours.{ours}
 use Rattle.tables.specs.Rows.{EntryRow}
@@ -35,7 +33,7 @@ unfoldable pub Holds : Row → Type 0
 Holds (line text answer) = line_answer (bytes_of text) ≡ value answer
 Holds (field word low high number) = bits_of word low high ≡ number
 Holds (depth route d) = depth_of route ≡ d
-Holds (parent route up d) = (upstream_route route ≡ Route up) × (depth_of up ≡ d)
+Holds (parent route up d) = (upstream_route route ≡ Some up) × (depth_of up ≡ d)
 Holds (walk words p a h end) = (t : List ℕ) → read_descriptions t ≡ value ours → path_answer t words (record { place = p; adapter = a; hop_id = h }) ≡ end
 Holds (tunnels words p a end) = (t : List ℕ) → read_descriptions t ≡ value ours → discover_answer t words p a ≡ end
 
@@ -90,20 +88,20 @@ host =
 
 unfoldable pub starred : List Row
 starred =
-    line "0x10 0 junk 1" (some (register_of 16 0 0 0 1))
-    ∷ line "39 0 4 0 80000000" (some (register_of 57 0 4 0 0x80000000))
-    ∷ line "0x10 0 1" none
-    ∷ line "10000 0 0 0" none
-    ∷ line "ffff 65535 0 0" (some (register_of 65535 65535 0 0 0))
-    ∷ line "+10 +2 0 0x+1" (some (register_of 16 2 0 0 1))
+    line "0x10 0 junk 1" (Some (register_of 16 0 0 0 1))
+    ∷ line "39 0 4 0 80000000" (Some (register_of 57 0 4 0 0x80000000))
+    ∷ line "0x10 0 1" None
+    ∷ line "10000 0 0 0" None
+    ∷ line "ffff 65535 0 0" (Some (register_of 65535 65535 0 0 0))
+    ∷ line "+10 +2 0 0x+1" (Some (register_of 16 2 0 0 1))
     ∷ field 0x80000808 11 16 1
     ∷ depth 0 0
     ∷ depth 0xff 1
     ∷ depth 0x100 2
     ∷ depth (2 ^ 56) 8
     ∷ parent 0x010001 1 1
-    ∷ walk apart 1 2 8 (value none)
+    ∷ walk apart 1 2 8 (value None)
     ∷ walk ring 0 2 8 (refused 13 [])
     ∷ tunnels ring 0 2 (refused 13 [])
-    ∷ tunnels host 0 1 (value (some []))
+    ∷ tunnels host 0 1 (value (Some []))
     ∷ []

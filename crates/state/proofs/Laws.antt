@@ -5,7 +5,7 @@ use native.Mathlib.Numerals.{add-one}
 use mathlib.Core.Path.{◌≡◌, refl, sym, ap, ◌∙◌, subst}
 use mathlib.Core.Bool.{Bool, true, false, cond, ◌&&◌}
 use mathlib.Core.List.{List, ◌∷◌}
-use mathlib.Core.Option.{Option, none, some}
+use Rattle.std.specs.Prelude.{Option, None, Some, Err, Ok, Result}
 use lib.Dec.{eqb}
 use lib.ListN.{length}
 use borrow.Author.Tests.{lt-ltb, le-ltb, eq-eqb, ne_eqb}
@@ -26,10 +26,8 @@ use Rattle.register.specs.declared.Register.{Register}
 use Rattle.layout.specs.Layout.{word}
 use Rattle.layout.specs.Description.{Description, described, descriptions_of}
 use Rattle.layout.proofs.Laws.{one_less}
-use Rattle.naming.specs.Naming.{naming, place_of, found_place}
+use Rattle.naming.specs.Naming.{naming, place_of}
 use Rattle.naming.specs.declared.Sought.{Sought}
-use Rattle.naming.specs.declared.Found.{Found}
-use Rattle.naming.specs.declared.Found.TheVariants as place
 use Rattle.fields.specs.Names.{find_field}
 use Rattle.metadata.specs.Calls.{value_in, flag_in}
 use Rattle.metadata.proofs.Named.{named_from, found_at, found_none}
@@ -37,17 +35,13 @@ use Rattle.survey.specs.Devices.{register_in}
 use Rattle.listing.proofs.Laws.{after_end}
 use Rattle.listing.specs.After.{after, listed, register_at, NextRegister}
 use Rattle.named.proofs.Laws.{wanted_field_lem, wanted_flag_lem}
-use Rattle.named.specs.Named.{Named, adapter_space, named, by_name, sited, wanted_field, wanted_flag, named_at, Within, field_read, flag_read}
-use Rattle.named.specs.declared.NamedFound.{NamedFound}
-use Rattle.named.specs.declared.NamedFound.TheVariants as found
-use Rattle.named.specs.declared.FieldRead.{FieldRead}
-use Rattle.named.specs.declared.FieldRead.TheVariants as field
-use Rattle.named.specs.declared.FlagRead.{FlagRead}
-use Rattle.named.specs.declared.FlagRead.TheVariants as flag
+use Rattle.named.specs.Named.{Named, adapter_space, named, by_name, sited, wanted_field, wanted_flag, named_at, Within, named_in}
+use Rattle.refusal.specs.Refusal.{field_read}
+use Rattle.named.specs.declared.NamedAt.{NamedAt}
 use Rattle.state.specs.State.{by_offset, both_set, enabled_if, by_flag, by_flags, lane_state, port_set, ports, gen_tState, of_kind, state_of, has_speed, speed_in, link_speed, state_outcome, speed_outcome}
 use Rattle.state.specs.Work.{OffsetAt}
-use Rattle.state.specs.declared.StateFound.TheVariants as state-found
-use Rattle.state.specs.declared.SpeedFound.TheVariants as speed-found
+use Rattle.refusal.specs.declared.FieldError.{FieldError}
+use Rattle.refusal.specs.declared.FieldError.TheVariants as field
 
 -- the place goes on two flags as on each
 pub sited_both : (s : Site) (a b : Outcome Bool) → sited s (both_set a b) ≡ both_set (sited s a) (sited s b)
@@ -57,118 +51,118 @@ sited_both s (value true) b = refl
 sited_both s (value false) b = refl
 
 -- two flags, by what the first is
-module _ (a b : Outcome Bool) (r : FlagRead) (e : flag_read r ≡ a) where
-  pub both_missing : r ≡ flag.Missing → flag_read flag.Missing ≡ both_set a b
-  unfolding both_set bind flag_read
-  both_missing k = ap (λ x. both_set x b) (ap flag_read (sym k) ∙ e)
+module _ (a b : Outcome Bool) (r : Result Bool FieldError) (e : field_read r ≡ a) where
+  pub both_missing : r ≡ (Err field.NoField) → field_read (Err field.NoField) ≡ both_set a b
+  unfolding both_set bind
+  both_missing k = ap (λ x. both_set x b) (ap field_read (sym k) ∙ e)
 
-  pub both_clear : r ≡ flag.Clear → flag_read flag.Clear ≡ both_set a b
-  unfolding both_set bind flag_read
-  both_clear k = ap (λ x. both_set x b) (ap flag_read (sym k) ∙ e)
+  pub both_clear : r ≡ (Ok false) → field_read (Ok false) ≡ both_set a b
+  unfolding both_set bind
+  both_clear k = ap (λ x. both_set x b) (ap field_read (sym k) ∙ e)
 
-  pub both_set_lem : r ≡ flag.Set → (q : FlagRead) → flag_read q ≡ b → flag_read q ≡ both_set a b
-  unfolding both_set bind flag_read
-  both_set_lem k q h = h ∙ ap (λ x. both_set x b) (ap flag_read (sym k) ∙ e)
+  pub both_set_lem : r ≡ (Ok true) → (q : Result Bool FieldError) → field_read q ≡ b → field_read q ≡ both_set a b
+  unfolding both_set bind
+  both_set_lem k q h = h ∙ ap (λ x. both_set x b) (ap field_read (sym k) ∙ e)
 
 -- the state that a flag gives
 module _ (s : Site) where
   abbrev enabled : Outcome Bool → Outcome State
   enabled o = bind o (λ b. value (enabled_if b))
 
-  pub enabled_missing : (r : FlagRead) → r ≡ flag.Missing → state_outcome (state-found.Refused (NoField s)) ≡ enabled (sited s (flag_read r))
-  unfolding state_outcome refusal_of bind sited flag_read
-  enabled_missing r k = ap (λ x. enabled (sited s (flag_read x))) (sym k)
+  pub enabled_missing : (r : Result Bool FieldError) → r ≡ (Err field.NoField) → state_outcome (Err (NoField s)) ≡ enabled (sited s (field_read r))
+  unfolding state_outcome refusal_of bind sited
+  enabled_missing r k = ap (λ x. enabled (sited s (field_read x))) (sym k)
 
-  pub enabled_clear : (r : FlagRead) → r ≡ flag.Clear → state_outcome (state-found.State state.Disabled) ≡ enabled (sited s (flag_read r))
-  unfolding state_outcome enabled_if bind sited flag_read
-  enabled_clear r k = ap (λ x. enabled (sited s (flag_read x))) (sym k)
+  pub enabled_clear : (r : Result Bool FieldError) → r ≡ (Ok false) → state_outcome (Ok state.Disabled) ≡ enabled (sited s (field_read r))
+  unfolding state_outcome enabled_if bind sited
+  enabled_clear r k = ap (λ x. enabled (sited s (field_read x))) (sym k)
 
-  pub enabled_set : (r : FlagRead) → r ≡ flag.Set → state_outcome (state-found.State state.Enabled) ≡ enabled (sited s (flag_read r))
-  unfolding state_outcome enabled_if bind sited flag_read
-  enabled_set r k = ap (λ x. enabled (sited s (flag_read x))) (sym k)
+  pub enabled_set : (r : Result Bool FieldError) → r ≡ (Ok true) → state_outcome (Ok state.Enabled) ≡ enabled (sited s (field_read r))
+  unfolding state_outcome enabled_if bind sited
+  enabled_set r k = ap (λ x. enabled (sited s (field_read x))) (sym k)
 
 -- by a register that is found by name, or isn't
-module _ (t v : List ℕ) (f : NamedFound) (n : Option Named) (e : named_at t v f ≡ n) where
+module _ (t v : List ℕ) (f : Option NamedAt) (n : Option Named) (e : named_at t v f ≡ n) where
   abbrev at_place : ℕ → ℕ → Named
   at_place i g = record { register = register_at v i; description = described t g }
 
-  no_name : f ≡ found.Nowhere → none ≡ n
+  no_name : f ≡ None → None ≡ n
   unfolding named_at
   no_name k = sym (ap (named_at t v) k) ∙ e
 
-  has_name : (i g : ℕ) → f ≡ found.At i g → some (at_place i g) ≡ n
+  has_name : (i g : ℕ) → f ≡ named_in i g → Some (at_place i g) ≡ n
   unfolding named_at
   has_name i g k = sym (ap (named_at t v) k) ∙ e
 
-  pub flag_nowhere : (s : Site) (name : List ℕ) → f ≡ found.Nowhere → value state.Unknown ≡ by_flag s name n
+  pub flag_nowhere : (s : Site) (name : List ℕ) → f ≡ None → value state.Unknown ≡ by_flag s name n
   unfolding by_flag
   flag_nowhere s name k = ap (by_flag s name) (no_name k)
 
-  pub flags_nowhere : (s : Site) (first second : List ℕ) → f ≡ found.Nowhere → value state.Unknown ≡ by_flags s first second n
+  pub flags_nowhere : (s : Site) (first second : List ℕ) → f ≡ None → value state.Unknown ≡ by_flags s first second n
   unfolding by_flags
   flags_nowhere s first second k = ap (by_flags s first second) (no_name k)
 
-  pub lane_nowhere : (s : Site) → f ≡ found.Nowhere → value state.Unknown ≡ lane_state s n
+  pub lane_nowhere : (s : Site) → f ≡ None → value state.Unknown ≡ lane_state s n
   unfolding lane_state
   lane_nowhere s k = ap (lane_state s) (no_name k)
 
-  pub gen_t_nowhere : (ds : List Description) (s : Site) (kind : ℕ) (rs : List Register) → f ≡ found.Nowhere → value state.Unknown ≡ gen_tState ds s kind rs n
+  pub gen_t_nowhere : (ds : List Description) (s : Site) (kind : ℕ) (rs : List Register) → f ≡ None → value state.Unknown ≡ gen_tState ds s kind rs n
   unfolding gen_tState
   gen_t_nowhere ds s kind rs k = ap (gen_tState ds s kind rs) (no_name k)
 
-  pub speed_nowhere : (s : Site) → f ≡ found.Nowhere → speed_outcome s (speed-found.Speed speed.Unknown) ≡ speed_in s n
+  pub speed_nowhere : (s : Site) → f ≡ None → speed_outcome s (Ok speed.Unknown) ≡ speed_in s n
   unfolding speed_outcome speed_in
   speed_nowhere s k = ap (speed_in s) (no_name k)
 
   -- its value is w
-  module _ (i g : ℕ) (k : f ≡ found.At i g) (w : ℕ) (ew : w ≡ word v (i + 3)) (s : Site) where
-    its_flag : (r : FlagRead) (name : List ℕ) → flag_read r ≡ flag_in w name (some (described t g)) → sited s (flag_read r) ≡ wanted_flag s (register_at v i) (some (described t g)) name
+  module _ (i g : ℕ) (k : f ≡ named_in i g) (w : ℕ) (ew : w ≡ word v (i + 3)) (s : Site) where
+    its_flag : (r : Result Bool FieldError) (name : List ℕ) → field_read r ≡ flag_in w name (Some (described t g)) → sited s (field_read r) ≡ wanted_flag s (register_at v i) (Some (described t g)) name
     unfolding register_at register_in register_of
-    its_flag r name h = wanted_flag_lem s t v i g r name (h ∙ ap (λ x. flag_in x name (some (described t g))) ew)
+    its_flag r name h = wanted_flag_lem s t v i g r name (h ∙ ap (λ x. flag_in x name (Some (described t g))) ew)
 
-    its_field : (r : FieldRead) (name : List ℕ) → field_read r ≡ value_in w (find_field name (described t g).fields) → sited s (field_read r) ≡ wanted_field s (at_place i g) name
+    its_field : (r : Result ℕ FieldError) (name : List ℕ) → field_read r ≡ value_in w (find_field name (described t g).fields) → sited s (field_read r) ≡ wanted_field s (at_place i g) name
     unfolding register_at register_in register_of
     its_field r name h = wanted_field_lem s t v i g r name (h ∙ ap (λ x. value_in x (find_field name (described t g).fields)) ew)
 
-    pub flag_at : (r : FlagRead) (name : List ℕ) → flag_read r ≡ flag_in w name (some (described t g)) → bind (sited s (flag_read r)) (λ b. value (enabled_if b)) ≡ by_flag s name n
+    pub flag_at : (r : Result Bool FieldError) (name : List ℕ) → field_read r ≡ flag_in w name (Some (described t g)) → bind (sited s (field_read r)) (λ b. value (enabled_if b)) ≡ by_flag s name n
     unfolding by_flag
     flag_at r name h = ap (enabled s) (its_flag r name h) ∙ ap (by_flag s name) (has_name i g k)
 
-    its_flags : (r : FlagRead) (first second : List ℕ) → flag_read r ≡ both_set (flag_in w first (some (described t g))) (flag_in w second (some (described t g)))
-        → sited s (flag_read r) ≡ both_set (wanted_flag s (register_at v i) (some (described t g)) first) (wanted_flag s (register_at v i) (some (described t g)) second)
+    its_flags : (r : Result Bool FieldError) (first second : List ℕ) → field_read r ≡ both_set (flag_in w first (Some (described t g))) (flag_in w second (Some (described t g)))
+        → sited s (field_read r) ≡ both_set (wanted_flag s (register_at v i) (Some (described t g)) first) (wanted_flag s (register_at v i) (Some (described t g)) second)
     unfolding wanted_flag register_at register_in register_of
     its_flags r first second h =
-        ap (sited s) (h ∙ ap (λ x. both_set (flag_in x first (some (described t g))) (flag_in x second (some (described t g)))) ew) ∙ sited_both s _ _
+        ap (sited s) (h ∙ ap (λ x. both_set (flag_in x first (Some (described t g))) (flag_in x second (Some (described t g)))) ew) ∙ sited_both s _ _
 
-    pub flags_at : (r : FlagRead) (first second : List ℕ) → flag_read r ≡ both_set (flag_in w first (some (described t g))) (flag_in w second (some (described t g)))
-        → bind (sited s (flag_read r)) (λ b. value (enabled_if b)) ≡ by_flags s first second n
+    pub flags_at : (r : Result Bool FieldError) (first second : List ℕ) → field_read r ≡ both_set (flag_in w first (Some (described t g))) (flag_in w second (Some (described t g)))
+        → bind (sited s (field_read r)) (λ b. value (enabled_if b)) ≡ by_flags s first second n
     unfolding by_flags
     flags_at r first second h = ap (enabled s) (its_flags r first second h) ∙ ap (by_flags s first second) (has_name i g k)
 
     -- a field of it is missing, or has a value
-    its_value : (r : FieldRead) (name : List ℕ) → field_read r ≡ value_in w (find_field name (described t g).fields) → (x : ℕ) → r ≡ field.Value x → value x ≡ wanted_field s (at_place i g) name
-    unfolding sited field_read
+    its_value : (r : Result ℕ FieldError) (name : List ℕ) → field_read r ≡ value_in w (find_field name (described t g).fields) → (x : ℕ) → r ≡ Ok x → value x ≡ wanted_field s (at_place i g) name
+    unfolding sited
     its_value r name h x m = ap (λ z. sited s (field_read z)) (sym m) ∙ its_field r name h
 
-    its_lack : (r : FieldRead) (name : List ℕ) → field_read r ≡ value_in w (find_field name (described t g).fields) → r ≡ field.Missing → refused 6 (at s) ≡ wanted_field s (at_place i g) name
-    unfolding sited field_read
+    its_lack : (r : Result ℕ FieldError) (name : List ℕ) → field_read r ≡ value_in w (find_field name (described t g).fields) → r ≡ (Err field.NoField) → refused 6 (at s) ≡ wanted_field s (at_place i g) name
+    unfolding sited
     its_lack r name h m = ap (λ z. sited s (field_read z)) (sym m) ∙ its_field r name h
 
-    module _ (r : FieldRead) where
-      pub lane_lacks : field_read r ≡ value_in w (find_field (bytes_of "Adapter State") (described t g).fields) → r ≡ field.Missing → state_outcome (state-found.Refused (NoField s)) ≡ lane_state s n
+    module _ (r : Result ℕ FieldError) where
+      pub lane_lacks : field_read r ≡ value_in w (find_field (bytes_of "Adapter State") (described t g).fields) → r ≡ (Err field.NoField) → state_outcome (Err (NoField s)) ≡ lane_state s n
       unfolding state_outcome refusal_of lane_state bind
       lane_lacks h m = ap (λ o. bind o (λ x. value (lane_state_of x))) (its_lack r _ h m) ∙ ap (lane_state s) (has_name i g k)
 
-      pub lane_has : field_read r ≡ value_in w (find_field (bytes_of "Adapter State") (described t g).fields) → (x : ℕ) → r ≡ field.Value x → (a : State) → a ≡ lane_state_of x → state_outcome (state-found.State a) ≡ lane_state s n
+      pub lane_has : field_read r ≡ value_in w (find_field (bytes_of "Adapter State") (described t g).fields) → (x : ℕ) → r ≡ Ok x → (a : State) → a ≡ lane_state_of x → state_outcome (Ok a) ≡ lane_state s n
       unfolding state_outcome lane_state bind
       lane_has h x m a q = ap value q ∙ ap (λ o. bind o (λ x. value (lane_state_of x))) (its_value r _ h x m) ∙ ap (lane_state s) (has_name i g k)
 
-      pub gen_t_lacks : (ds : List Description) (kind : ℕ) (rs : List Register) → field_read r ≡ value_in w (find_field (bytes_of "Gen T Port Count") (described t g).fields) → r ≡ field.Missing
-          → state_outcome (state-found.Refused (NoField s)) ≡ gen_tState ds s kind rs n
+      pub gen_t_lacks : (ds : List Description) (kind : ℕ) (rs : List Register) → field_read r ≡ value_in w (find_field (bytes_of "Gen T Port Count") (described t g).fields) → r ≡ (Err field.NoField)
+          → state_outcome (Err (NoField s)) ≡ gen_tState ds s kind rs n
       unfolding state_outcome refusal_of gen_tState bind
       gen_t_lacks ds kind rs h m = ap (λ o. bind o (λ c. ports ds s kind rs (register_at v i).offset 0 (c % 65536))) (its_lack r _ h m) ∙ ap (gen_tState ds s kind rs) (has_name i g k)
 
-      pub gen_t_has : (ds : List Description) (kind : ℕ) (rs : List Register) → field_read r ≡ value_in w (find_field (bytes_of "Gen T Port Count") (described t g).fields) → (x : ℕ) → r ≡ field.Value x
+      pub gen_t_has : (ds : List Description) (kind : ℕ) (rs : List Register) → field_read r ≡ value_in w (find_field (bytes_of "Gen T Port Count") (described t g).fields) → (x : ℕ) → r ≡ Ok x
           → (head : ℕ) → head ≡ word v i → ports ds s kind rs (head % 65536) 0 (x % 65536) ≡ gen_tState ds s kind rs n
       unfolding gen_tState bind register_at register_in register_of
       gen_t_has ds kind rs h x m head q =
@@ -176,16 +170,16 @@ module _ (t v : List ℕ) (f : NamedFound) (n : Option Named) (e : named_at t v 
           ∙ ap (λ o. bind o (λ c. ports ds s kind rs (register_at v i).offset 0 (c % 65536))) (its_value r _ h x m)
           ∙ ap (gen_tState ds s kind rs) (has_name i g k)
 
-      pub speed_lacks : field_read r ≡ value_in w (find_field (bytes_of "Current Link Speed") (described t g).fields) → r ≡ field.Missing → speed_outcome s speed-found.NoField ≡ speed_in s n
+      pub speed_lacks : field_read r ≡ value_in w (find_field (bytes_of "Current Link Speed") (described t g).fields) → r ≡ (Err field.NoField) → speed_outcome s (Err field.NoField) ≡ speed_in s n
       unfolding speed_outcome refusal_of speed_in bind
       speed_lacks h m = ap (λ o. bind o (λ x. value (speed_of x))) (its_lack r _ h m) ∙ ap (speed_in s) (has_name i g k)
 
-      pub speed_has : field_read r ≡ value_in w (find_field (bytes_of "Current Link Speed") (described t g).fields) → (x : ℕ) → r ≡ field.Value x → (a : Speed) → a ≡ speed_of x → speed_outcome s (speed-found.Speed a) ≡ speed_in s n
+      pub speed_has : field_read r ≡ value_in w (find_field (bytes_of "Current Link Speed") (described t g).fields) → (x : ℕ) → r ≡ Ok x → (a : Speed) → a ≡ speed_of x → speed_outcome s (Ok a) ≡ speed_in s n
       unfolding speed_outcome speed_in bind
       speed_has h x m a q = ap value q ∙ ap (λ o. bind o (λ x. value (speed_of x))) (its_value r _ h x m) ∙ ap (speed_in s) (has_name i g k)
 
 -- the words of a register that is found are there
-pub found_within : (n : ℕ) (f : NamedFound) (i g : ℕ) → Within n f → f ≡ found.At i g → i + 4 ≤ n
+pub found_within : (n : ℕ) (f : Option NamedAt) (i g : ℕ) → Within n f → f ≡ named_in i g → i + 4 ≤ n
 unfolding Within
 found_within n f i g h k = subst (Within n) k h
 
@@ -212,7 +206,7 @@ module _ (t : List ℕ) (from o i : ℕ) where
       within = n.within;
       room = λ k. (n.room k).1;
       here = n.here;
-      same = h.same ∙ ap (by_offset o) (h.here l) ∙ ap (λ b. cond b (some (register_at t i)) (by_offset o (after t (i + 4)).registers)) (ne_eqb _ _ e) ∙ ap (by_offset o) n.same;
+      same = h.same ∙ ap (by_offset o) (h.here l) ∙ ap (λ b. cond b (Some (register_at t i)) (by_offset o (after t (i + 4)).registers)) (ne_eqb _ _ e) ∙ ap (by_offset o) n.same;
     }
 
     pub seek_end : length t ≤ i → OffsetAt t from o (length t)
@@ -227,17 +221,17 @@ module _ (t v : List ℕ) (from o i k : ℕ) (s : Site) (h : OffsetAt v from o i
   abbrev port : Outcome Bool
   port = port_set (descriptions_of t) s k (after v from).registers (by_offset o (after v from).registers)
 
-  pub port_absent : length v ≤ i → sited s (flag_read flag.Clear) ≡ port
-  unfolding sited flag_read port_set
-  port_absent l = sym (ap (port_set (descriptions_of t) s k (after v from).registers) (h.found ∙ ap (λ b. cond b (some (register_at v i)) none) (le-ltb i (length v) l)))
+  pub port_absent : length v ≤ i → sited s (field_read (Ok false)) ≡ port
+  unfolding sited port_set
+  port_absent l = sym (ap (port_set (descriptions_of t) s k (after v from).registers) (h.found ∙ ap (λ b. cond b (Some (register_at v i)) None) (le-ltb i (length v) l)))
 
   -- ids and vs are the register's words
   module _ (l : i < length v) (ids vs : ℕ) (ei : ids ≡ word v (i + 1)) (ev : vs ≡ word v (i + 2)) where
     abbrev sought : ℕ → ℕ → Sought
     sought a b = record { space = 1; kind = k; offset = a / 65536 % 65536; cap = a % 65536; vs = b }
 
-    there : port_set (descriptions_of t) s k (after v from).registers (some (register_at v i)) ≡ port
-    there = sym (ap (port_set (descriptions_of t) s k (after v from).registers) (h.found ∙ ap (λ b. cond b (some (register_at v i)) none) (lt-ltb i (length v) l)))
+    there : port_set (descriptions_of t) s k (after v from).registers (Some (register_at v i)) ≡ port
+    there = sym (ap (port_set (descriptions_of t) s k (after v from).registers) (h.found ∙ ap (λ b. cond b (Some (register_at v i)) None) (lt-ltb i (length v) l)))
 
     is_named : naming (sought ids vs) (descriptions_of t) ≡ named (descriptions_of t) adapter_space k (register_at v i)
     unfolding named register_at register_in register_of
@@ -250,20 +244,20 @@ module _ (t v : List ℕ) (from o i k : ℕ) (s : Site) (h : OffsetAt v from o i
     unfolding port_set
     by_named d e = ap (λ x. by_description x) (sym e ∙ is_named) ∙ there
 
-    module _ (f : Found) (e : found_place f ≡ place_of (naming (sought ids vs) (descriptions_of t))) where
-      pub port_nameless : f ≡ place.Nowhere → sited s (flag_read flag.Missing) ≡ port
-      unfolding sited flag_read both_set bind wanted_flag flag_in
-      port_nameless m = by_named none (found_none f _ e m)
+    module _ (f : Option ℕ) (e : f ≡ place_of (naming (sought ids vs) (descriptions_of t))) where
+      pub port_nameless : f ≡ None → sited s (field_read (Err field.NoField)) ≡ port
+      unfolding sited both_set bind wanted_flag flag_in
+      port_nameless m = by_named None (found_none f _ e m)
 
-      group_named : (g : ℕ) → f ≡ place.At g → naming (sought ids vs) (descriptions_of t) ≡ some (described t g)
+      group_named : (g : ℕ) → f ≡ Some g → naming (sought ids vs) (descriptions_of t) ≡ Some (described t g)
       group_named g m = go (found_at f _ e g m)
         where
-          go : (d : Description) × (naming (sought ids vs) (descriptions_of t) ≡ some d) × (d.place ≡ g) → naming (sought ids vs) (descriptions_of t) ≡ some (described t g)
-          go (d, q, p) = q ∙ ap some ((named_from t (sought ids vs) d q).is ∙ ap (described t) p)
+          go : (d : Description) × (naming (sought ids vs) (descriptions_of t) ≡ Some d) × (d.place ≡ g) → naming (sought ids vs) (descriptions_of t) ≡ Some (described t g)
+          go (d, q, p) = q ∙ ap Some ((named_from t (sought ids vs) d q).is ∙ ap (described t) p)
 
-      pub port_named : (g : ℕ) → f ≡ place.At g → (w : ℕ) → w ≡ word v (i + 3) → (r : FlagRead)
-          → flag_read r ≡ both_set (flag_in w (bytes_of "PE") (some (described t g))) (flag_in w (bytes_of "V") (some (described t g))) → sited s (flag_read r) ≡ port
-      port_named g m w ew r q = its_flags t v (found.At i g) _ refl i g refl w ew s r _ _ q ∙ by_named _ (group_named g m)
+      pub port_named : (g : ℕ) → f ≡ Some g → (w : ℕ) → w ≡ word v (i + 3) → (r : Result Bool FieldError)
+          → field_read r ≡ both_set (flag_in w (bytes_of "PE") (Some (described t g))) (flag_in w (bytes_of "V") (Some (described t g))) → sited s (field_read r) ≡ port
+      port_named g m w ew r q = its_flags t v (named_in i g) _ refl i g refl w ew s r _ _ q ∙ by_named _ (group_named g m)
 
 -- all ports
 pub ports_all : (ds : List Description) (s : Site) (k : ℕ) (rs : List Register) (cap count : ℕ) → ports ds s k rs cap 0 (count - 0) ≡ ports ds s k rs cap 0 count
@@ -277,7 +271,7 @@ module _ (ds : List Description) (s : Site) (k : ℕ) (rs : List Register) (cap 
   abbrev one_port : Outcome Bool
   one_port = port_set ds s k rs (by_offset (cap + 3 + 2 * p) rs)
 
-  pub ports_end : count ≤ p → state_outcome (state-found.State state.Disabled) ≡ left
+  pub ports_end : count ≤ p → state_outcome (Ok state.Disabled) ≡ left
   unfolding state_outcome ports
   ports_end l = let e : 0 ≡ count - p = omega arith in ap (ports ds s k rs cap p) e
 
@@ -285,29 +279,29 @@ module _ (ds : List Description) (s : Site) (k : ℕ) (rs : List Register) (cap 
     more : ports ds s k rs cap p (suc (count - (p + 1))) ≡ left
     more = ap (ports ds s k rs cap p) (sym (one_less p count l))
 
-    pub ports_past : 65535 < cap + 3 + 2 * p → state_outcome (state-found.Refused (GenTOffset s)) ≡ left
+    pub ports_past : 65535 < cap + 3 + 2 * p → state_outcome (Err (GenTOffset s)) ≡ left
     unfolding state_outcome ports
     ports_past h = sym (simp (lt-ltb 65535 (cap + 3 + 2 * p) h)) ∙ more
 
-    module _ (h : cap + 3 + 2 * p ≤ 65535) (r : FlagRead) (e : sited s (flag_read r) ≡ one_port) where
+    module _ (h : cap + 3 + 2 * p ≤ 65535) (r : Result Bool FieldError) (e : sited s (field_read r) ≡ one_port) where
       abbrev by_port : Outcome Bool → Outcome State
       by_port o = bind o (λ b. cond b (value state.Enabled) (ports ds s k rs cap (suc p) (count - (p + 1))))
 
-      by_flag_lem : by_port (sited s (flag_read r)) ≡ left
+      by_flag_lem : by_port (sited s (field_read r)) ≡ left
       unfolding ports
       by_flag_lem = ap (λ o. by_port o) e ∙ sym (ap (λ b. cond b (refusal_of (GenTOffset s)) (by_port one_port)) (le-ltb 65535 (cap + 3 + 2 * p) h)) ∙ more
 
-      pub ports_missing : r ≡ flag.Missing → state_outcome (state-found.Refused (NoField s)) ≡ left
-      unfolding state_outcome refusal_of bind sited flag_read
-      ports_missing m = ap (λ x. by_port (sited s (flag_read x))) (sym m) ∙ by_flag_lem
+      pub ports_missing : r ≡ (Err field.NoField) → state_outcome (Err (NoField s)) ≡ left
+      unfolding state_outcome refusal_of bind sited
+      ports_missing m = ap (λ x. by_port (sited s (field_read x))) (sym m) ∙ by_flag_lem
 
-      pub ports_set : r ≡ flag.Set → state_outcome (state-found.State state.Enabled) ≡ left
-      unfolding state_outcome bind sited flag_read
-      ports_set m = ap (λ x. by_port (sited s (flag_read x))) (sym m) ∙ by_flag_lem
+      pub ports_set : r ≡ (Ok true) → state_outcome (Ok state.Enabled) ≡ left
+      unfolding state_outcome bind sited
+      ports_set m = ap (λ x. by_port (sited s (field_read x))) (sym m) ∙ by_flag_lem
 
-      pub ports_clear : r ≡ flag.Clear → left ≡ ports ds s k rs cap (p + 1) (count - (p + 1))
-      unfolding bind sited flag_read
-      ports_clear m = sym (ap (λ x. by_port (sited s (flag_read x))) (sym m) ∙ by_flag_lem) ∙ ap (λ x. ports ds s k rs cap x (count - (p + 1))) (sym (add-one p))
+      pub ports_clear : r ≡ (Ok false) → left ≡ ports ds s k rs cap (p + 1) (count - (p + 1))
+      unfolding bind sited
+      ports_clear m = sym (ap (λ x. by_port (sited s (field_read x))) (sym m) ∙ by_flag_lem) ∙ ap (λ x. ports ds s k rs cap x (count - (p + 1))) (sym (add-one p))
 
 -- a speed, by kind, state and register
 module _ (ds : List Description) (k : AdapterType) (st : State) (rs : List Register) (s : Site) (number : ℕ) (e : number ≡ type_number k) where
@@ -317,7 +311,7 @@ module _ (ds : List Description) (k : AdapterType) (st : State) (rs : List Regis
   abbrev speed_by_lem : Bool → Bool → Outcome Speed
   speed_by_lem lane has = cond (lane && has) (speed_in s (lane_register (type_number k))) (value speed.Unknown)
 
-  pub speed_kind : (number ≡ 2 → ⊥) → speed_outcome s (speed-found.Speed speed.Unknown) ≡ link_speed ds s k st rs
+  pub speed_kind : (number ≡ 2 → ⊥) → speed_outcome s (Ok speed.Unknown) ≡ link_speed ds s k st rs
   unfolding speed_outcome link_speed of_kind
   speed_kind n = sym (ap (λ b. speed_by_lem b (has_speed st)) (ap (λ x. eqb x 2) (sym e) ∙ ne_eqb number 2 n))
 
@@ -326,7 +320,7 @@ module _ (ds : List Description) (k : AdapterType) (st : State) (rs : List Regis
     unfolding link_speed of_kind
     by_state b h = ap (λ x. speed_by_lem true x) (sym h) ∙ sym (ap (λ x. speed_by_lem x (has_speed st)) (ap (λ x. eqb x 2) (sym e) ∙ eq-eqb number 2 lane))
 
-    pub speed_state : has_speed st ≡ false → speed_outcome s (speed-found.Speed speed.Unknown) ≡ link_speed ds s k st rs
+    pub speed_state : has_speed st ≡ false → speed_outcome s (Ok speed.Unknown) ≡ link_speed ds s k st rs
     unfolding speed_outcome
     speed_state h = by_state false h
 

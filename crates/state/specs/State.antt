@@ -1,6 +1,5 @@
 -- Document 01, module 5: an adapter's state and link speed, by its kind and its registers. Assumes nothing.
-use Rattle.std.specs.Prelude.{ℕ, zero, suc, ◌+◌, ◌*◌, ◌%◌, Bool, true, false, cond, ◌&&◌, ◌||◌, List, [], ◌∷◌, ltb, eqb}
-use Rattle.std.proofs.Math.Option.{Option, none, some}
+use Rattle.std.specs.Prelude.{ℕ, zero, suc, ◌+◌, ◌*◌, ◌%◌, Bool, true, false, cond, ◌&&◌, ◌||◌, List, [], ◌∷◌, ltb, eqb, Option, None, Some, Err, Ok, Result}
 use Rattle.refusal.specs.Outcome.{Outcome, value, bind}
 use Rattle.refusal.specs.Refusal.{refusal_of}
 use Rattle.refusal.specs.declared.Site.{Site}
@@ -17,15 +16,14 @@ use Rattle.usb4.specs.declared.Speed.TheVariants as speed
 use Rattle.register.specs.declared.Register.{Register}
 use Rattle.layout.specs.Description.{Description}
 use Rattle.named.specs.Named.{Named, adapter_space, named, by_name, wanted_field, wanted_flag}
-use Rattle.state.specs.declared.StateFound.{StateFound}
-use Rattle.state.specs.declared.StateFound.TheVariants as state-found
-use Rattle.state.specs.declared.SpeedFound.{SpeedFound}
-use Rattle.state.specs.declared.SpeedFound.TheVariants as speed-found
+use Rattle.refusal.specs.declared.Fault.{Fault}
+use Rattle.refusal.specs.declared.FieldError.{FieldError}
+use Rattle.refusal.specs.declared.FieldError.TheVariants as field
 
 -- `register_by_offset`: the first register that stands there, named or not
 unfoldable pub by_offset : ℕ → List Register → Option Register
-by_offset o [] = none
-by_offset o (r ∷ rs) = cond (eqb r.offset o) (some r) (by_offset o rs)
+by_offset o [] = None
+by_offset o (r ∷ rs) = cond (eqb r.offset o) (Some r) (by_offset o rs)
 
 -- the second flag is read only if the first is set
 unfoldable pub both_set : Outcome Bool → Outcome Bool → Outcome Bool
@@ -36,22 +34,22 @@ enabled_if b = cond b state.Enabled state.Disabled
 
 -- one flag, or two, of a register by name; Unknown without the register
 unfoldable pub by_flag : Site → List ℕ → Option Named → Outcome State
-by_flag s f none = value state.Unknown
-by_flag s f (some n) = bind (wanted_flag s n.register (some n.description) f) (λ b. value (enabled_if b))
+by_flag s f None = value state.Unknown
+by_flag s f (Some n) = bind (wanted_flag s n.register (Some n.description) f) (λ b. value (enabled_if b))
 
 unfoldable pub by_flags : Site → List ℕ → List ℕ → Option Named → Outcome State
-by_flags s f g none = value state.Unknown
-by_flags s f g (some n) = bind (both_set (wanted_flag s n.register (some n.description) f) (wanted_flag s n.register (some n.description) g)) (λ b. value (enabled_if b))
+by_flags s f g None = value state.Unknown
+by_flags s f g (Some n) = bind (both_set (wanted_flag s n.register (Some n.description) f) (wanted_flag s n.register (Some n.description) g)) (λ b. value (enabled_if b))
 
 unfoldable pub lane_state : Site → Option Named → Outcome State
-lane_state s none = value state.Unknown
-lane_state s (some n) = bind (wanted_field s n (bytes_of "Adapter State")) (λ v. value (lane_state_of v))
+lane_state s None = value state.Unknown
+lane_state s (Some n) = bind (wanted_field s n (bytes_of "Adapter State")) (λ v. value (lane_state_of v))
 
 module _ (ds : List Description) (s : Site) (k : ℕ) (rs : List Register) where
   -- whether a Gen T port is enabled: the register at its offset, if there is one, by PE and then V
   unfoldable pub port_set : Option Register → Outcome Bool
-  port_set none = value false
-  port_set (some r) = both_set (wanted_flag s r (named ds adapter_space k r) (bytes_of "PE")) (wanted_flag s r (named ds adapter_space k r) (bytes_of "V"))
+  port_set None = value false
+  port_set (Some r) = both_set (wanted_flag s r (named ds adapter_space k r) (bytes_of "PE")) (wanted_flag s r (named ds adapter_space k r) (bytes_of "V"))
 
   -- ports from p on, n of them: port p looks at offset cap + 3 + 2 × p, 8 past 65,535; an enabled port ends it
   unfoldable pub ports : ℕ → ℕ → ℕ → Outcome State
@@ -61,8 +59,8 @@ module _ (ds : List Description) (s : Site) (k : ℕ) (rs : List Register) where
       (bind (port_set (by_offset (cap + 3 + 2 * p) rs)) (λ b. cond b (value state.Enabled) (ports cap (suc p) n)))
 
   unfoldable pub gen_tState : Option Named → Outcome State
-  gen_tState none = value state.Unknown
-  gen_tState (some n) = bind (wanted_field s n (bytes_of "Gen T Port Count")) (λ c. ports n.register.offset 0 (c % 65536))
+  gen_tState None = value state.Unknown
+  gen_tState (Some n) = bind (wanted_field s n (bytes_of "Gen T Port Count")) (λ c. ports n.register.offset 0 (c % 65536))
 
 -- an adapter's register by name
 unfoldable pub of_kind : List Description → AdapterType → List Register → List ℕ → Option Named
@@ -97,8 +95,8 @@ has_speed state.Cl2 = true
 has_speed state.Cld = false
 
 unfoldable pub speed_in : Site → Option Named → Outcome Speed
-speed_in s none = value speed.Unknown
-speed_in s (some n) = bind (wanted_field s n (bytes_of "Current Link Speed")) (λ v. value (speed_of v))
+speed_in s None = value speed.Unknown
+speed_in s (Some n) = bind (wanted_field s n (bytes_of "Current Link Speed")) (λ v. value (speed_of v))
 
 -- `link_speed` of an adapter of a kind in a state
 unfoldable pub link_speed : List Description → Site → AdapterType → State → List Register → Outcome Speed
@@ -124,10 +122,10 @@ unfoldable pub is_enabled : AdapterType → State → Bool
 is_enabled k st = eqb (type_number k) (type_number type.HostInterface) || (is_protocol k && eqb (state_number st) (state_number state.Enabled))
 
 -- what `parse_state` and `link_speed` answer
-unfoldable pub state_outcome : StateFound → Outcome State
-state_outcome (state-found.State st) = value st
-state_outcome (state-found.Refused f) = refusal_of f
+unfoldable pub state_outcome : Result State Fault → Outcome State
+state_outcome (Ok st) = value st
+state_outcome (Err f) = refusal_of f
 
-unfoldable pub speed_outcome : Site → SpeedFound → Outcome Speed
-speed_outcome s (speed-found.Speed v) = value v
-speed_outcome s speed-found.NoField = refusal_of (NoField s)
+unfoldable pub speed_outcome : Site → Result Speed FieldError → Outcome Speed
+speed_outcome s (Ok v) = value v
+speed_outcome s (Err e) = refusal_of (NoField s)

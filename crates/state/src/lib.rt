@@ -2,7 +2,6 @@
 #![tactic(auto)]
 
 ghost use Rattle.std.specs.Prelude.{◌<◌, ◌≡◌};
-ghost use Rattle.std.proofs.Math.Option.{some};
 ghost use Rattle.refusal.specs.Outcome.{value, bind};
 ghost use Rattle.refusal.specs.declared.Site.{Site};
 ghost use Rattle.util.specs.Text.{bytes_of};
@@ -12,28 +11,15 @@ ghost use Rattle.usb4.specs.declared.State.TheVariants as state;
 ghost use Rattle.layout.specs.Description.{described, descriptions_of};
 ghost use Rattle.metadata.specs.Calls.{flag_in};
 ghost use Rattle.listing.specs.After.{after};
-ghost use Rattle.named.specs.Named.{adapter_space, by_name, sited, flag_read};
+ghost use Rattle.named.specs.Named.{adapter_space, by_name, sited};
+ghost use Rattle.refusal.specs.Refusal.{field_read};
 ghost use Rattle.state.specs.State.{by_offset, both_set, enabled_if, by_flag, by_flags, lane_state, port_set, ports, gen_tState, state_of, state_outcome};
 ghost use Rattle.state.specs.Work.{OffsetAt};
 
-use named::{FieldRead, FlagRead, NamedFound};
-use naming::{Found, Sought};
-use refusal::{Fault, Site};
+use named::NamedAt;
+use naming::Sought;
+use refusal::{Fault, FieldError, Site};
 use usb4::{AdapterType, Speed, State};
-
-// A state, or what refuses it: 6 or 8.
-#[derive(Clone, Copy)]
-pub enum StateFound {
-    State(State),
-    Refused(Fault),
-}
-
-// A link speed, or 6.
-#[derive(Clone, Copy)]
-pub enum SpeedFound {
-    Speed(Speed),
-    NoField,
-}
 
 // Two flags of one register: the second is read only if the first is set.
 fn two_flags(
@@ -42,32 +28,32 @@ fn two_flags(
     value: u32,
     first: &[u8],
     second: &[u8],
-) -> FlagRead
-    ensures { flag_read result ≡ both_set (flag_in value first.now (some (described descriptions.now group))) (flag_in value second.now (some (described descriptions.now group))) }
+) -> Result<bool, FieldError>
+    ensures { field_read result ≡ both_set (flag_in value first.now (Some (described descriptions.now group))) (flag_in value second.now (Some (described descriptions.now group))) }
 {
-    match named::flag_value(descriptions, group, value, first) {
-        FlagRead::Missing => FlagRead::Missing,
-        FlagRead::Clear => FlagRead::Clear,
-        FlagRead::Set => named::flag_value(descriptions, group, value, second),
+    let set = named::flag_value(descriptions, group, value, first)?;
+    if !set {
+        return Ok(false);
     }
+    named::flag_value(descriptions, group, value, second)
 }
 
 // The state of an adapter that is enabled by a flag.
-fn enabled_by(flag: FlagRead, site: Site) -> StateFound
-    ensures { state_outcome result ≡ bind (sited site (flag_read flag)) (λ b. value (enabled_if b)) }
+fn enabled_by(flag: Result<bool, FieldError>, site: Site) -> Result<State, Fault>
+    ensures { state_outcome result ≡ bind (sited site (field_read flag)) (λ b. value (enabled_if b)) }
 {
     match flag {
-        FlagRead::Missing => StateFound::Refused(Fault::NoField(site)),
-        FlagRead::Clear => StateFound::State(State::Disabled),
-        FlagRead::Set => StateFound::State(State::Enabled),
+        Err(FieldError::NoField) => Err(Fault::NoField(site)),
+        Ok(false) => Ok(State::Disabled),
+        Ok(true) => Ok(State::Enabled),
     }
 }
 
 // The state of an adapter that lacks the register that tells it.
-fn untold() -> StateFound
+fn untold() -> Result<State, Fault>
     ensures { state_outcome result ≡ value state.Unknown }
 {
-    StateFound::State(State::Unknown)
+    Ok(State::Unknown)
 }
 
 // By two flags of a register by name.
@@ -80,10 +66,10 @@ fn flags_state(
     first: &[u8],
     second: &[u8],
     site: Site,
-) -> StateFound
+) -> Result<State, Fault>
     ensures { state_outcome result ≡ by_flags site first.now second.now (by_name (descriptions_of descriptions.now) adapter_space kind name.now (after survey.now from).registers) }
 {
-    let NamedFound::At { register, group } = named::by_name(
+    let Some(NamedAt { register, group }) = named::by_name(
         descriptions,
         survey,
         from,
@@ -104,7 +90,7 @@ fn display_port_state(
     from: usize,
     kind: u32,
     site: Site,
-) -> StateFound
+) -> Result<State, Fault>
     ensures { state_outcome result ≡ by_flags site (bytes_of "VE") (bytes_of "AE") (by_name (descriptions_of descriptions.now) adapter_space kind (bytes_of "ADP_DP_CS_0") (after survey.now from).registers) }
 {
     flags_state(
@@ -126,10 +112,10 @@ fn pcie_state(
     from: usize,
     kind: u32,
     site: Site,
-) -> StateFound
+) -> Result<State, Fault>
     ensures { state_outcome result ≡ by_flag site (bytes_of "PE") (by_name (descriptions_of descriptions.now) adapter_space kind (bytes_of "ADP_PCIE_CS_0") (after survey.now from).registers) }
 {
-    let NamedFound::At { register, group } = named::by_name(
+    let Some(NamedAt { register, group }) = named::by_name(
         descriptions,
         survey,
         from,
@@ -150,7 +136,7 @@ fn usb3_state(
     from: usize,
     kind: u32,
     site: Site,
-) -> StateFound
+) -> Result<State, Fault>
     ensures { state_outcome result ≡ by_flags site (bytes_of "PE") (bytes_of "V") (by_name (descriptions_of descriptions.now) adapter_space kind (bytes_of "ADP_USB3_GX_CS_0") (after survey.now from).registers) }
 {
     flags_state(
@@ -166,10 +152,10 @@ fn usb3_state(
 }
 
 // A lane's state.
-fn lane_state(descriptions: &[u32], survey: &[u32], from: usize, site: Site) -> StateFound
+fn lane_state(descriptions: &[u32], survey: &[u32], from: usize, site: Site) -> Result<State, Fault>
     ensures { state_outcome result ≡ lane_state site (by_name (descriptions_of descriptions.now) adapter_space (type_number type.Lane) (bytes_of "LANE_ADP_CS_1") (after survey.now from).registers) }
 {
-    let NamedFound::At { register, group } = named::by_name(
+    let Some(NamedAt { register, group }) = named::by_name(
         descriptions,
         survey,
         from,
@@ -180,11 +166,10 @@ fn lane_state(descriptions: &[u32], survey: &[u32], from: usize, site: Site) -> 
         return untold();
     };
     let value = layout::word_at(survey, register + 3);
-    let FieldRead::Value(code) = named::field_value(descriptions, group, value, b"Adapter State")
-    else {
-        return StateFound::Refused(Fault::NoField(site));
+    let Ok(code) = named::field_value(descriptions, group, value, b"Adapter State") else {
+        return Err(Fault::NoField(site));
     };
-    StateFound::State(codes::lane_state(code))
+    Ok(codes::lane_state(code))
 }
 
 // Where the first register at an offset stands; the length where there is none.
@@ -202,12 +187,18 @@ fn by_offset(survey: &[u32], from: usize, offset: u32) -> usize
 }
 
 // Whether a Gen T port is enabled, by the register at its offset: PE, then V.
-fn port_set(descriptions: &[u32], survey: &[u32], from: usize, kind: u32, offset: u32) -> FlagRead
-    ensures { (s : Site) → sited s (flag_read result) ≡ port_set (descriptions_of descriptions.now) s kind (after survey.now from).registers (by_offset offset (after survey.now from).registers) }
+fn port_set(
+    descriptions: &[u32],
+    survey: &[u32],
+    from: usize,
+    kind: u32,
+    offset: u32,
+) -> Result<bool, FieldError>
+    ensures { (s : Site) → sited s (field_read result) ≡ port_set (descriptions_of descriptions.now) s kind (after survey.now from).registers (by_offset offset (after survey.now from).registers) }
 {
     let i = by_offset(survey, from, offset);
     if survey.len() <= i {
-        return FlagRead::Clear;
+        return Ok(false);
     }
     let ids = layout::word_at(survey, i + 1);
     let q = Sought {
@@ -217,8 +208,8 @@ fn port_set(descriptions: &[u32], survey: &[u32], from: usize, kind: u32, offset
         cap: ids % 65536,
         vs: layout::word_at(survey, i + 2),
     };
-    let Found::At(group) = naming::find_group(descriptions, q) else {
-        return FlagRead::Missing;
+    let Some(group) = naming::find_group(descriptions, q) else {
+        return Err(FieldError::NoField);
     };
     two_flags(
         descriptions,
@@ -238,7 +229,7 @@ fn port_states(
     cap: u32,
     count: u32,
     site: Site,
-) -> StateFound
+) -> Result<State, Fault>
     requires { (cap < 65536) × (count < 65536) }
     ensures { state_outcome result ≡ ports (descriptions_of descriptions.now) site kind (after survey.now from).registers cap 0 count }
 {
@@ -246,21 +237,21 @@ fn port_states(
     while port < count {
         let offset = cap + 3 + 2 * port;
         if 65535 < offset {
-            return StateFound::Refused(Fault::GenTOffset(site));
+            return Err(Fault::GenTOffset(site));
         }
         match port_set(descriptions, survey, from, kind, offset) {
-            FlagRead::Missing => {
-                return StateFound::Refused(Fault::NoField(site));
+            Err(FieldError::NoField) => {
+                return Err(Fault::NoField(site));
             }
-            FlagRead::Set => {
-                return StateFound::State(State::Enabled);
+            Ok(true) => {
+                return Ok(State::Enabled);
             }
-            FlagRead::Clear => {
+            Ok(false) => {
                 port += 1;
             }
         }
     }
-    StateFound::State(State::Disabled)
+    Ok(State::Disabled)
 }
 
 // The state of a Gen T adapter of a kind.
@@ -270,10 +261,10 @@ fn gen_t_state(
     from: usize,
     kind: u32,
     site: Site,
-) -> StateFound
+) -> Result<State, Fault>
     ensures { state_outcome result ≡ gen_tState (descriptions_of descriptions.now) site kind (after survey.now from).registers (by_name (descriptions_of descriptions.now) adapter_space kind (bytes_of "ADP_USB3_GT_CS_0") (after survey.now from).registers) }
 {
-    let NamedFound::At { register, group } = named::by_name(
+    let Some(NamedAt { register, group }) = named::by_name(
         descriptions,
         survey,
         from,
@@ -284,13 +275,8 @@ fn gen_t_state(
         return untold();
     };
     let value = layout::word_at(survey, register + 3);
-    let FieldRead::Value(count) = named::field_value(
-        descriptions,
-        group,
-        value,
-        b"Gen T Port Count",
-    ) else {
-        return StateFound::Refused(Fault::NoField(site));
+    let Ok(count) = named::field_value(descriptions, group, value, b"Gen T Port Count") else {
+        return Err(Fault::NoField(site));
     };
     let cap = layout::word_at(survey, register) % 65536;
     port_states(descriptions, survey, from, kind, cap, count % 65536, site)
@@ -303,14 +289,14 @@ pub fn parse_state(
     from: usize,
     kind: AdapterType,
     site: Site,
-) -> StateFound
+) -> Result<State, Fault>
     ensures { state_outcome result ≡ state_of (descriptions_of descriptions.now) site kind (after survey.now from).registers }
 {
     match kind {
-        AdapterType::Unknown => StateFound::State(State::Unknown),
-        AdapterType::Inactive => StateFound::State(State::Unknown),
+        AdapterType::Unknown => Ok(State::Unknown),
+        AdapterType::Inactive => Ok(State::Unknown),
         AdapterType::Lane => lane_state(descriptions, survey, from, site),
-        AdapterType::HostInterface => StateFound::State(State::Enabled),
+        AdapterType::HostInterface => Ok(State::Enabled),
         AdapterType::DisplayPortIn => display_port_state(descriptions, survey, from, 4, site),
         AdapterType::DisplayPortOut => display_port_state(descriptions, survey, from, 5, site),
         AdapterType::PcieDown => pcie_state(descriptions, survey, from, 6, site),

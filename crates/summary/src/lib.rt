@@ -6,10 +6,7 @@ ghost use Rattle.util.specs.Text.{bytes_of};
 ghost use Rattle.print.specs.Print.{decimal, Puts};
 ghost use Rattle.printed.specs.Printed.{total_line, refused_line, PrintDone};
 
-use printed::Printed;
-
-// No buffer holds a text that long, and longer ones are counted as that long.
-const MOST: usize = 18446744073709551615;
+use refusal::Refusal;
 
 // Puts a word and a number as a line.
 fn put_numbered(text: &[u8], n: u64, out: &mut [u8]) -> usize
@@ -20,31 +17,32 @@ fn put_numbered(text: &[u8], n: u64, out: &mut [u8]) -> usize
     print::put_text(out, b, b"\n")
 }
 
-// A word and a number as a line.
-fn numbered(text: &[u8], n: u64, output: &mut [u8]) -> Printed
+// A word and a number as a line. Written out as in printed::lines: one function for both, which is lent what puts the text, would be public and need a requires.
+fn numbered(text: &[u8], n: u64, output: &mut [u8]) -> Result<usize, Refusal>
     ensures { PrintDone (text.now ++ decimal n ++ bytes_of "\n") output.old result output.new }
 {
     let mut nowhere = [0u8; 1];
     let need = put_numbered(text, n, &mut nowhere);
-    if MOST <= need {
-        return Printed::Short(need);
+    // No buffer holds a text that long, and longer ones are counted as that long.
+    if need == usize::MAX {
+        return Err(Refusal::Short(need));
     }
     if output.len() < need {
-        return Printed::Short(need);
+        return Err(Refusal::Short(need));
     }
     put_numbered(text, n, output);
-    Printed::Bytes(need)
+    Ok(need)
 }
 
 // The first line: the number of tunnels.
-pub fn total(tunnels: usize, output: &mut [u8]) -> Printed
+pub fn total(tunnels: usize, output: &mut [u8]) -> Result<usize, Refusal>
     ensures { PrintDone (total_line tunnels) output.old result output.new }
 {
     numbered(b"tunnels ", tunnels as u64, output)
 }
 
 // The only line where something is refused: its number.
-pub fn refused(number: u8, output: &mut [u8]) -> Printed
+pub fn refused(number: u8, output: &mut [u8]) -> Result<usize, Refusal>
     ensures { PrintDone (refused_line number) output.old result output.new }
 {
     numbered(b"refused ", number as u64, output)

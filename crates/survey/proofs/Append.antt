@@ -1,4 +1,5 @@
 -- Surveys one after another: groups, devices and acceptance go part by part, where the second part begins with a device. Assumes nothing.
+use Rattle.std.specs.Prelude.{None, Option, Some}
 use Prim.Native.Nat.{ℕ, ◌+◌}
 use native.Mathlib.Omega.{arith}
 use native.Mathlib.Nat.{add-zero, add_assoc}
@@ -13,8 +14,6 @@ use Rattle.survey.specs.Rules.{start, step_of, step_by, size_by, on_step, first_
 use Rattle.survey.specs.Devices.{Device, Gathered, register_in, with_register, with_adapter, with_device, with_group, gather}
 use Rattle.survey.specs.Places.{is_device}
 use Rattle.survey.specs.declared.Under.{Under}
-use Rattle.survey.specs.declared.Step.{Step}
-use Rattle.survey.specs.declared.Step.TheVariants.{On, Broken}
 use Rattle.survey.proofs.Laws.{short_group}
 
 -- no group is cut off
@@ -111,9 +110,9 @@ unfolding first_bad sizes bind on_step Fresh
 check_append [] ys f i u = f i u ∙ ap (λ n. first_bad n start ys) (sym (add-zero i))
 check_append (x ∷ xs) ys f i u = step (step_by u x) (λ v. check_append xs ys f (i + size_by x) v)
   where
-    step : (s : Step) → ((v : Under) → first_bad (i + size_by x) v (xs ++ ys) ≡ bind (first_bad (i + size_by x) v xs) (λ ok. first_bad (i + size_by x + sizes xs) start ys)) → on_step s (λ v. first_bad (i + size_by x) v (xs ++ ys)) (refused 4 (i ∷ [])) ≡ bind (on_step s (λ v. first_bad (i + size_by x) v xs) (refused 4 (i ∷ []))) (λ ok. first_bad (i + (size_by x + sizes xs)) start ys)
-    step (On v) ih = ih v ∙ ap (λ n. bind (first_bad (i + size_by x) v xs) (λ ok. first_bad n start ys)) (add_assoc i (size_by x) (sizes xs))
-    step Broken ih = refl
+    step : (s : Option Under) → ((v : Under) → first_bad (i + size_by x) v (xs ++ ys) ≡ bind (first_bad (i + size_by x) v xs) (λ ok. first_bad (i + size_by x + sizes xs) start ys)) → on_step s (λ v. first_bad (i + size_by x) v (xs ++ ys)) (refused 4 (i ∷ [])) ≡ bind (on_step s (λ v. first_bad (i + size_by x) v xs) (refused 4 (i ∷ []))) (λ ok. first_bad (i + (size_by x + sizes xs)) start ys)
+    step (Some v) ih = ih v ∙ ap (λ n. bind (first_bad (i + size_by x) v xs) (λ ok. first_bad n start ys)) (add_assoc i (size_by x) (sizes xs))
+    step None ih = refl
 
 -- what is accepted has no group that is cut off
 pub accepted_uncut : (gs : List Group) (i : ℕ) (u : Under) → first_bad i u gs ≡ value tt → uncut gs ≡ true
@@ -122,6 +121,6 @@ accepted_uncut [] i u e = refl
 accepted_uncut (cut ∷ gs) i u e = absurd (let z : ◌≡◌ {A = ℕ} 0 1 = cc in omega arith)
 accepted_uncut (group w a b c ∷ gs) i u e = step (step_of u w b) e (λ v h. accepted_uncut gs (i + size_by (group w a b c)) v h)
   where
-    step : (s : Step) → on_step s (λ v. first_bad (i + size_by (group w a b c)) v gs) (refused 4 (i ∷ [])) ≡ value tt → ((v : Under) → first_bad (i + size_by (group w a b c)) v gs ≡ value tt → uncut gs ≡ true) → uncut gs ≡ true
-    step (On v) h ih = ih v h
-    step Broken h ih = absurd (let z : ◌≡◌ {A = ℕ} 0 1 = cc in omega arith)
+    step : (s : Option Under) → on_step s (λ v. first_bad (i + size_by (group w a b c)) v gs) (refused 4 (i ∷ [])) ≡ value tt → ((v : Under) → first_bad (i + size_by (group w a b c)) v gs ≡ value tt → uncut gs ≡ true) → uncut gs ≡ true
+    step (Some v) h ih = ih v h
+    step None h ih = absurd (let z : ◌≡◌ {A = ℕ} 0 1 = cc in omega arith)

@@ -1,4 +1,5 @@
 -- Laws on survey groups. Assumes nothing.
+use Rattle.std.specs.Prelude.{None, Some}
 use Prim.Native.Nat.{ℕ, suc, ◌+◌, ◌-◌, ◌<◌, ◌≤◌}
 use native.Mathlib.Omega.{arith}
 use mathlib.Core.Path.{◌≡◌, refl, ◌∙◌, ap, sym}
@@ -14,10 +15,8 @@ use Rattle.layout.specs.Layout.{bits, low, kind}
 use Rattle.survey.specs.Rules.{max_words, start, check_of, good_device, good_adapter, good_register, after_device, after_adapter, after_register, may_stand, step_of, step_by, size_by, on_step, first_bad}
 use Rattle.survey.specs.Places.{is_device, device_heads_from, device_heads, group_at}
 use Rattle.survey.specs.Work.{heads_at, NextHead}
-use Rattle.survey.specs.declared.Placed.TheVariants as placed
 use native.Mathlib.Decide.{dec_lt}
 use Rattle.survey.specs.declared.Under.{Under}
-use Rattle.survey.specs.declared.Step.TheVariants.{On, Broken}
 use Rattle.survey.specs.Words.{is_long, size_of, group, cut, groups_of}
 
 -- the first group of a list of words, and those after it
@@ -46,10 +45,10 @@ or_false false b e = (refl, e)
 
 short_step : (u : Under) (w a b : ℕ) → is_long w ≡ false → step_of u w a ≡ step_of u w b
 unfolding is_long step_of
-short_step u w a b e = ap (λ x. cond (eqb (kind w) 3) (cond (good_device w) (On (after_device w)) Broken) (cond (eqb (kind w) 4) (cond (u.begun && good_adapter w) (On (after_adapter w)) Broken) x)) (no_register a ∙ sym (no_register b))
+short_step u w a b e = ap (λ x. cond (eqb (kind w) 3) (cond (good_device w) (Some (after_device w)) None) (cond (eqb (kind w) 4) (cond (u.begun && good_adapter w) (Some (after_adapter w)) None) x)) (no_register a ∙ sym (no_register b))
   where
-    no_register : (v : ℕ) → cond (eqb (kind w) 5) (cond (good_register w v && may_stand u (bits w 16 16) (low w 15)) (On (after_register u w)) Broken) Broken ≡ Broken
-    no_register v = ap (λ t. cond t (cond (good_register w v && may_stand u (bits w 16 16) (low w 15)) (On (after_register u w)) Broken) Broken) (or_false (eqb (kind w) 3) (eqb (kind w) 5) e).1
+    no_register : (v : ℕ) → cond (eqb (kind w) 5) (cond (good_register w v && may_stand u (bits w 16 16) (low w 15)) (Some (after_register u w)) None) None ≡ None
+    no_register v = ap (λ t. cond t (cond (good_register w v && may_stand u (bits w 16 16) (low w 15)) (Some (after_register u w)) None) None) (or_false (eqb (kind w) 3) (eqb (kind w) 5) e).1
 
 -- the group at a place of a list
 module _ (t : List ℕ) (i : ℕ) (here : i < length t) where
@@ -126,11 +125,11 @@ module _ (t : List ℕ) where
       pub at_cut : length t - i < size_of (get_or t i 0) → refused 4 (i ∷ []) ≡ check_of t
       at_cut h = sym (so_far ∙ cut_bad t i u (group_cut t i here h))
 
-      pub at_broken : size_of (get_or t i 0) ≤ length t - i → step_of u (get_or t i 0) (get_or t (i + 2) 0) ≡ Broken → refused 4 (i ∷ []) ≡ check_of t
+      pub at_broken : size_of (get_or t i 0) ≤ length t - i → step_of u (get_or t i 0) (get_or t (i + 2) 0) ≡ None → refused 4 (i ∷ []) ≡ check_of t
       unfolding on_step
       at_broken h e = sym (so_far ∙ group_whole t i here h u ∙ ap (λ x. on_step x (λ v. first_bad (i + size_of (get_or t i 0)) v (groups_of (drop (i + size_of (get_or t i 0)) t))) (refused 4 (i ∷ []))) e)
 
-      pub at_next : size_of (get_or t i 0) ≤ length t - i → (v : Under) → step_of u (get_or t i 0) (get_or t (i + 2) 0) ≡ On v → first_bad 0 start (groups_of t) ≡ first_bad (i + size_of (get_or t i 0)) v (groups_of (drop (i + size_of (get_or t i 0)) t))
+      pub at_next : size_of (get_or t i 0) ≤ length t - i → (v : Under) → step_of u (get_or t i 0) (get_or t (i + 2) 0) ≡ Some v → first_bad 0 start (groups_of t) ≡ first_bad (i + size_of (get_or t i 0)) v (groups_of (drop (i + size_of (get_or t i 0)) t))
       unfolding on_step
       at_next h v e = inv ∙ group_whole t i here h u ∙ ap (λ x. on_step x (λ v. first_bad (i + size_of (get_or t i 0)) v (groups_of (drop (i + size_of (get_or t i 0)) t))) (refused 4 (i ∷ []))) e
 
@@ -177,7 +176,7 @@ module _ (t : List ℕ) (i : ℕ) where
 
 -- a device's group, from where its heads are known
 module _ (t : List ℕ) (k at : ℕ) (so_far : drop k (device_heads t) ≡ heads_at t at) where
-  pub no_group : (p : ℕ) → k ≤ p → length t ≤ at → placed.Nowhere ≡ group_at t p
+  pub no_group : (p : ℕ) → k ≤ p → length t ≤ at → None ≡ group_at t p
   unfolding group_at
   no_group p h l =
       let n : length (device_heads t) ≤ p = omega (arith, ap length (so_far ∙ heads_end t at l), length-drop k (device_heads t)) in
@@ -195,7 +194,7 @@ module _ (t : List ℕ) (k at : ℕ) (so_far : drop k (device_heads t) ≡ heads
         go (yes h) = ap (λ l. get_or l 0 (length t)) (n.same ∙ n.head h)
         go (no h) = ap (λ l. get_or l 0 (length t)) (n.same ∙ heads_end t e (omega arith)) ∙ omega (arith, n.within)
 
-    pub this_group : (e : ℕ) → NextHead t (at + 4) e → placed.Group at e ≡ group_at t k
+    pub this_group : (e : ℕ) → NextHead t (at + 4) e → Some (record { start = at; end = e }) ≡ group_at t k
     unfolding group_at
     this_group e n =
         let z : k + 0 ≡ k = omega arith in

@@ -1,13 +1,9 @@
 -- Document 01, "Words" and refusal 4: when a survey group breaks the rules. Assumes nothing.
-use Rattle.std.specs.Prelude.{ℕ, ◌+◌, Bool, true, false, cond, not, ◌&&◌, ◌||◌, List, [], ◌∷◌, ltb, leb, eqb, length}
+use Rattle.std.specs.Prelude.{ℕ, ◌+◌, Bool, true, false, cond, not, ◌&&◌, ◌||◌, List, [], ◌∷◌, ltb, leb, eqb, length, None, Option, Some}
 use Rattle.refusal.specs.Outcome.{Outcome, refused, value}
 use Rattle.layout.specs.Layout.{bits, low, kind}
 use Rattle.survey.specs.Words.{Group, group, cut, size_of, groups_of}
 use Rattle.survey.specs.declared.Under.{Under}
-use Rattle.survey.specs.declared.Step.{Step}
-use Rattle.survey.specs.declared.Step.TheVariants.{On, Broken}
-use Rattle.survey.specs.declared.Checked.{Checked}
-use Rattle.survey.specs.declared.Checked.TheVariants.{WellFormed, Refused}
 
 -- a survey holds at most 16,384 words
 abbrev pub max_words : ℕ
@@ -47,24 +43,24 @@ unfoldable pub after_register : Under → ℕ → Under
 after_register u w = record { begun = u.begun; registers = u.registers; paths = u.paths; listing = eqb (bits w 16 16) 1; least = low w 15 }
 
 -- what a group with head w, whose third word is vs, leads to; an adapter has a device before it
-unfoldable pub step_of : Under → ℕ → ℕ → Step
+unfoldable pub step_of : Under → ℕ → ℕ → Option Under
 step_of u w vs =
-    cond (eqb (kind w) 3) (cond (good_device w) (On (after_device w)) Broken)
-    (cond (eqb (kind w) 4) (cond (u.begun && good_adapter w) (On (after_adapter w)) Broken)
-    (cond (eqb (kind w) 5) (cond (good_register w vs && may_stand u (bits w 16 16) (low w 15)) (On (after_register u w)) Broken)
-    Broken))
+    cond (eqb (kind w) 3) (cond (good_device w) (Some (after_device w)) None)
+    (cond (eqb (kind w) 4) (cond (u.begun && good_adapter w) (Some (after_adapter w)) None)
+    (cond (eqb (kind w) 5) (cond (good_register w vs && may_stand u (bits w 16 16) (low w 15)) (Some (after_register u w)) None)
+    None))
 
-unfoldable pub step_by : Under → Group → Step
+unfoldable pub step_by : Under → Group → Option Under
 step_by u (group w a b c) = step_of u w b
-step_by u cut = Broken
+step_by u cut = None
 
 unfoldable pub size_by : Group → ℕ
 size_by (group w a b c) = size_of w
 size_by cut = 1
 
-unfoldable pub on_step : Step → (Under → Outcome Unit) → Outcome Unit → Outcome Unit
-on_step (On u) f bad = f u
-on_step Broken f bad = bad
+unfoldable pub on_step : Option Under → (Under → Outcome Unit) → Outcome Unit → Outcome Unit
+on_step (Some u) f bad = f u
+on_step None f bad = bad
 
 -- 4 with the place of the first group that breaks the rules, where the first group here stands at i
 unfoldable pub first_bad : ℕ → Under → List Group → Outcome Unit
@@ -74,8 +70,3 @@ first_bad i u (g ∷ gs) = on_step (step_by u g) (λ v. first_bad (i + size_by g
 -- 4 with 16,384 if the survey is too long, else with the head of the first group that breaks the rules
 unfoldable pub check_of : List ℕ → Outcome Unit
 check_of t = cond (ltb max_words (length t)) (refused 4 (max_words ∷ [])) (first_bad 0 start (groups_of t))
-
--- document 01's number and values for what `check` answers
-unfoldable pub checked_outcome : Checked → Outcome Unit
-checked_outcome WellFormed = value tt
-checked_outcome (Refused p) = refused 4 (p ∷ [])

@@ -1,13 +1,6 @@
 // Survey words: the types of their rules and places. `rules`, `wellformed` and `places` have the code.
 #![tactic(auto)]
 
-// Whether the words are well formed, or where they are refused (4).
-#[derive(Clone, Copy)]
-pub enum Checked {
-    WellFormed,
-    Refused(usize),
-}
-
 // What may stand next: whether there is a device yet, which dumps of the last head were read, whether path space has begun, and the last offset.
 #[derive(Clone, Copy)]
 pub struct Under {
@@ -18,16 +11,9 @@ pub struct Under {
     pub least: u32,
 }
 
-// What a head leads to: the state after it, or it breaks the rules.
+// Where a device's group starts and where it ends.
 #[derive(Clone, Copy)]
-pub enum Step {
-    On(Under),
-    Broken,
-}
-
-// Where a device's group stands, if there are so many devices.
-#[derive(Clone, Copy)]
-pub enum Placed {
-    Group(usize, usize),
-    Nowhere,
+pub struct Bounds {
+    pub start: usize,
+    pub end: usize,
 }

@@ -3,7 +3,8 @@ use Prim.Native.Nat.{ℕ, zero, suc, ◌+◌, ◌-◌, ◌*◌, ◌/◌, ◌%◌
 use mathlib.Core.Path.{◌≡◌, refl, sym, ap, ◌∙◌, subst}
 use mathlib.Core.Bool.{Bool, true, false, cond, ◌&&◌, false≢true}
 use mathlib.Core.List.{List, [], ◌∷◌, ◌++◌, map}
-use mathlib.Core.Option.{Option, none, some, some-injective, none-ne-some}
+use Rattle.std.specs.Prelude.{Option, None, Some, Result}
+use Rattle.std.proofs.lemmas.Option.{same_Some, none-some}
 use native.Mathlib.Omega.{arith}
 use native.Mathlib.Decide.{dec_lt, ℕ_discrete}
 use native.Mathlib.Numerals.{add-one}
@@ -11,7 +12,7 @@ use lib.Dec.{eqb}
 use lib.ListN.{length, get_or, take, drop, drop_of_length-le}
 use lib.Seq.{get_or-take, drop-cons}
 use borrow.Author.Tests.{eq-eqb, ne_eqb, eqb-true}
-use Rattle.refusal.specs.Outcome.{Outcome, value}
+use Rattle.refusal.specs.Outcome.{value}
 use Rattle.refusal.specs.Refusal.{refusal_of}
 use Rattle.refusal.specs.declared.Site.{Site}
 use Rattle.refusal.specs.declared.Fault.TheVariants.{NoField}
@@ -27,15 +28,12 @@ use Rattle.usb4.specs.declared.Speed.{Speed}
 use Rattle.usb4.specs.declared.Speed.TheVariants as speed
 use Rattle.adapter.specs.Adapter.{AdapterRow, facts_row, max_hop_outcome}
 use Rattle.adapter.specs.declared.Facts.{Facts}
-use Rattle.adapter.specs.declared.MaxHop.{MaxHop}
 use Rattle.state.specs.State.{speed_outcome}
-use Rattle.state.specs.declared.SpeedFound.{SpeedFound}
 use Rattle.tables.specs.Rows.{EntryRow, entry_in, adapter_in, device_in, is_router, router_from}
 use Rattle.tables.specs.Packed.{entry_word, adapter_word, device_word, entries_in, adapters_in, devices_from, entry_unit, adapter_unit, Sorted, type_by, state_by, speed_by, number_by, upstream_by}
 use Rattle.tables.specs.Found.{Boundary, EntrySought, AdapterSought, entry_found, adapter_found, upstream_outcome, device_row}
-use Rattle.tables.specs.declared.EntryAt.TheVariants as entry
-use Rattle.tables.specs.declared.AdapterFound.TheVariants as adapter
-use Rattle.tables.specs.declared.Upstream.{Upstream}
+use Rattle.refusal.specs.declared.FieldError.{FieldError}
+use Rattle.adapter.specs.Paths.{entry_out}
 
 both : (x y : Bool) → (x && y) ≡ true → (x ≡ true) × (y ≡ true)
 both true y e = (refl, e)
@@ -106,37 +104,37 @@ module _ (p a h : ℕ) (la : a < 256) (lh : h < 65536) where
       n (omega arith))
 
   entry_hit : (t : List ℕ) (i : ℕ) → i < length t → ((j : ℕ) → j < i → get_or t j 0 / 16777216 < key_of p a h)
-      → get_or t i 0 / 16777216 ≡ key_of p a h → some (entry_word (get_or t i 0)) ≡ entry_in (entries_in t) p a h
+      → get_or t i 0 / 16777216 ≡ key_of p a h → Some (entry_word (get_or t i 0)) ≡ entry_in (entries_in t) p a h
   unfolding entry_in
   entry_hit [] i l lt e = absurd (omega arith)
   entry_hit (w ∷ t) zero l lt e = rw (entry_yes w e) refl
   entry_hit (w ∷ t) (suc i) l lt e = rw (entry_no w (λ q. omega (arith, lt 0 (omega arith)))) (entry_hit t i (omega arith) (λ j m. lt (suc j) (omega arith)) e)
 
-  entry_miss : (t : List ℕ) → ((j : ℕ) → j < length t → get_or t j 0 / 16777216 ≡ key_of p a h → ⊥) → none ≡ entry_in (entries_in t) p a h
+  entry_miss : (t : List ℕ) → ((j : ℕ) → j < length t → get_or t j 0 / 16777216 ≡ key_of p a h → ⊥) → None ≡ entry_in (entries_in t) p a h
   unfolding entry_in
   entry_miss [] n = refl
   entry_miss (w ∷ t) n = rw (entry_no w (n 0 (omega arith))) (entry_miss t (λ j m. n (suc j) (omega arith)))
 
 -- what a search for an entry answers
-pub entry_past : (t : List ℕ) (p a h : ℕ) → 65535 < p → EntrySought t p a h entry.Missing
+pub entry_past : (t : List ℕ) (p a h : ℕ) → 65535 < p → EntrySought t p a h None
 unfolding entry_found
-entry_past t p a h l = record { first = λ q s. absurd (omega arith); past = λ q. refl; held = λ e q. absurd (none-ne-some e q) }
+entry_past t p a h l = record { first = λ q s. absurd (omega arith); past = λ q. refl; held = λ e q. absurd (none-some e q) }
 
 module _ (t : List ℕ) (p a h r : ℕ) (lp : p < 65536) (la : a < 256) (lh : h < 65536) (b : Boundary t (key_of p a h * 16777216) r) where
-  pub entry_missing : (r < length t → get_or t r 0 / 16777216 ≡ key_of p a h → ⊥) → EntrySought t p a h entry.Missing
+  pub entry_missing : (r < length t → get_or t r 0 / 16777216 ≡ key_of p a h → ⊥) → EntrySought t p a h None
   unfolding entry_found
   entry_missing n = record {
     first = λ q s. entry_miss p a h la lh t (absent 16777216 t (key_of p a h) _ r (λ w l. omega arith) (λ w l. omega arith) s b n);
     past = λ q. refl;
-    held = λ e q. absurd (none-ne-some e q);
+    held = λ e q. absurd (none-some e q);
   }
 
-  pub entry_found_lem : r < length t → get_or t r 0 / 16777216 ≡ key_of p a h → EntrySought t p a h (entry.Entry (get_or t r 0 / 65536 % 256) (get_or t r 0 % 65536))
+  pub entry_found_lem : r < length t → get_or t r 0 / 16777216 ≡ key_of p a h → EntrySought t p a h (Some (entry_out (get_or t r 0 / 65536 % 256) (get_or t r 0 % 65536)))
   unfolding entry_found
   entry_found_lem l e = record {
-    first = λ q s. ap some (sym (entry_is p a h la lh (get_or t r 0) e)) ∙ entry_hit p a h la lh t r l (before 16777216 t (key_of p a h) _ r (λ w l. omega arith) (λ w l. omega arith) s b) e;
+    first = λ q s. ap Some (sym (entry_is p a h la lh (get_or t r 0) e)) ∙ entry_hit p a h la lh t r l (before 16777216 t (key_of p a h) _ r (λ w l. omega arith) (λ w l. omega arith) s b) e;
     past = λ q. absurd (omega arith);
-    held = λ x q. (r, l, entry_is p a h la lh (get_or t r 0) e ∙ some-injective _ x q);
+    held = λ x q. (r, l, entry_is p a h la lh (get_or t r 0) e ∙ same_Some _ x q);
   }
 
 -- ---- adapters
@@ -158,36 +156,36 @@ module _ (p a : ℕ) (la : a < 256) where
       n (omega arith))
 
   adapter_hit : (t : List ℕ) (i : ℕ) → i < length t → ((j : ℕ) → j < i → get_or t j 0 / 1099511627776 < p * 256 + a)
-      → get_or t i 0 / 1099511627776 ≡ p * 256 + a → some (adapter_word (get_or t i 0)) ≡ adapter_in (adapters_in t) p a
+      → get_or t i 0 / 1099511627776 ≡ p * 256 + a → Some (adapter_word (get_or t i 0)) ≡ adapter_in (adapters_in t) p a
   unfolding adapter_in
   adapter_hit [] i l lt e = absurd (omega arith)
   adapter_hit (w ∷ t) zero l lt e = rw (adapter_yes w e) refl
   adapter_hit (w ∷ t) (suc i) l lt e = rw (adapter_no w (λ q. omega (arith, lt 0 (omega arith)))) (adapter_hit t i (omega arith) (λ j m. lt (suc j) (omega arith)) e)
 
-  adapter_miss : (t : List ℕ) → ((j : ℕ) → j < length t → get_or t j 0 / 1099511627776 ≡ p * 256 + a → ⊥) → none ≡ adapter_in (adapters_in t) p a
+  adapter_miss : (t : List ℕ) → ((j : ℕ) → j < length t → get_or t j 0 / 1099511627776 ≡ p * 256 + a → ⊥) → None ≡ adapter_in (adapters_in t) p a
   unfolding adapter_in
   adapter_miss [] n = refl
   adapter_miss (w ∷ t) n = rw (adapter_no w (n 0 (omega arith))) (adapter_miss t (λ j m. n (suc j) (omega arith)))
 
-pub adapter_past : (t : List ℕ) (p a : ℕ) → 65535 < p → AdapterSought t p a adapter.Nowhere
+pub adapter_past : (t : List ℕ) (p a : ℕ) → 65535 < p → AdapterSought t p a None
 unfolding adapter_found
-adapter_past t p a l = record { first = λ q s. absurd (omega arith); past = λ q. refl; held = λ e q. absurd (none-ne-some e q) }
+adapter_past t p a l = record { first = λ q s. absurd (omega arith); past = λ q. refl; held = λ e q. absurd (none-some e q) }
 
 module _ (t : List ℕ) (p a r : ℕ) (lp : p < 65536) (la : a < 256) (b : Boundary t ((p * 256 + a) * 1099511627776) r) where
-  pub adapter_missing : (r < length t → get_or t r 0 / 1099511627776 ≡ p * 256 + a → ⊥) → AdapterSought t p a adapter.Nowhere
+  pub adapter_missing : (r < length t → get_or t r 0 / 1099511627776 ≡ p * 256 + a → ⊥) → AdapterSought t p a None
   unfolding adapter_found
   adapter_missing n = record {
     first = λ q s. adapter_miss p a la t (absent 1099511627776 t (p * 256 + a) _ r (λ w l. omega arith) (λ w l. omega arith) s b n);
     past = λ q. refl;
-    held = λ e q. absurd (none-ne-some e q);
+    held = λ e q. absurd (none-some e q);
   }
 
-  pub adapter_found_lem : (f : Facts) → r < length t → get_or t r 0 / 1099511627776 ≡ p * 256 + a → facts_row (get_or t r 0 / 281474976710656) f ≡ adapter_word (get_or t r 0) → AdapterSought t p a (adapter.Adapter f)
+  pub adapter_found_lem : (f : Facts) → r < length t → get_or t r 0 / 1099511627776 ≡ p * 256 + a → facts_row (get_or t r 0 / 281474976710656) f ≡ adapter_word (get_or t r 0) → AdapterSought t p a (Some f)
   unfolding adapter_found adapter_word
   adapter_found_lem f l e g = record {
-    first = λ q s. ap some same ∙ adapter_hit p a la t r l (before 1099511627776 t (p * 256 + a) _ r (λ w l. omega arith) (λ w l. omega arith) s b) e;
+    first = λ q s. ap Some same ∙ adapter_hit p a la t r l (before 1099511627776 t (p * 256 + a) _ r (λ w l. omega arith) (λ w l. omega arith) s b) e;
     past = λ q. absurd (omega arith);
-    held = λ x q. let z = sym same ∙ some-injective _ x q in (r, l, z, sym (ap (λ (y : AdapterRow). y.number) z) ∙ number);
+    held = λ x q. let z = sym same ∙ same_Some _ x q in (r, l, z, sym (ap (λ (y : AdapterRow). y.number) z) ∙ number);
   }
     where
       same : facts_row p f ≡ adapter_word (get_or t r 0)
@@ -198,7 +196,7 @@ module _ (t : List ℕ) (p a r : ℕ) (lp : p < 65536) (la : a < 256) (b : Bound
 
 -- ---- numbers that stand for something else
 
-pub number_none : (s : Site) (n : ℕ) → n < 1 → value none ≡ number_by s n
+pub number_none : (s : Site) (n : ℕ) → n < 1 → value None ≡ number_by s n
 unfolding number_by
 number_none s zero l = refl
 number_none s (suc n) l = absurd (omega arith)
@@ -209,13 +207,13 @@ number_lacks s zero k l = absurd (omega arith)
 number_lacks s (suc zero) k l = refl
 number_lacks s (suc (suc n)) k l = absurd (omega arith)
 
-pub number_given : (s : Site) (n : ℕ) → 2 ≤ n → value (some (n - 2)) ≡ number_by s n
+pub number_given : (s : Site) (n : ℕ) → 2 ≤ n → value (Some (n - 2)) ≡ number_by s n
 unfolding number_by
 number_given s zero k = absurd (omega arith)
 number_given s (suc zero) k = absurd (omega arith)
-number_given s (suc (suc n)) k = ap (λ (m : ℕ). value (some m)) (omega arith)
+number_given s (suc (suc n)) k = ap (λ (m : ℕ). value (Some m)) (omega arith)
 
-pub upstream_none : (s : Site) (n : ℕ) → n < 1 → value none ≡ upstream_by s n
+pub upstream_none : (s : Site) (n : ℕ) → n < 1 → value None ≡ upstream_by s n
 unfolding upstream_by
 upstream_none s zero l = refl
 upstream_none s (suc n) l = absurd (omega arith)
@@ -226,11 +224,11 @@ upstream_lacks s zero k l = absurd (omega arith)
 upstream_lacks s (suc zero) k l = refl
 upstream_lacks s (suc (suc n)) k l = absurd (omega arith)
 
-pub upstream_given : (s : Site) (n : ℕ) → 2 ≤ n → value (some ((n - 2) % 256)) ≡ upstream_by s n
+pub upstream_given : (s : Site) (n : ℕ) → 2 ≤ n → value (Some ((n - 2) % 256)) ≡ upstream_by s n
 unfolding upstream_by
 upstream_given s zero k = absurd (omega arith)
 upstream_given s (suc zero) k = absurd (omega arith)
-upstream_given s (suc (suc n)) k = ap (λ (m : ℕ). value (some (m % 256))) (omega arith)
+upstream_given s (suc (suc n)) k = ap (λ (m : ℕ). value (Some (m % 256))) (omega arith)
 
 pub type_round : (k : AdapterType) → type_by (type_number k) ≡ k
 unfolding type_by
@@ -269,26 +267,26 @@ speed_round s speed.Gen4 = refl
 
 -- ---- words taken apart
 
-pub facts_made : (w : ℕ) (k : AdapterType) (v : State) (f : SpeedFound) (m : MaxHop) → k ≡ type_by (w / 65536 % 16) → v ≡ state_by (w / 4096 % 16) → ((s : Site) → speed_outcome s f ≡ speed_by s (w / 256 % 16)) → ((s : Site) → max_hop_outcome s m ≡ number_by s (w / 1048576 % 1048576))
+pub facts_made : (w : ℕ) (k : AdapterType) (v : State) (f : Result Speed FieldError) (m : Result (Option ℕ) FieldError) → k ≡ type_by (w / 65536 % 16) → v ≡ state_by (w / 4096 % 16) → ((s : Site) → speed_outcome s f ≡ speed_by s (w / 256 % 16)) → ((s : Site) → max_hop_outcome s m ≡ number_by s (w / 1048576 % 1048576))
     → facts_row (w / 281474976710656) (record { number = w / 1099511627776 % 256; kind = k; state = v; lane0 = eqb (w / 16 % 16) 1; lane1 = eqb (w % 16) 1; speed = f; max_hop = m }) ≡ adapter_word w
 unfolding facts_row adapter_word
 facts_made w k v f m e g h j = rw (e, g, h, j) refl
 
-pub device_made : (p r m : ℕ) (k : Kind) (u : Upstream) → k ≡ device_kind_of (m / 281474976710656 % 16) → ((s : Site) → upstream_outcome s u ≡ upstream_by s (m / 4294967296 % 65536))
+pub device_made : (p r m : ℕ) (k : Kind) (u : Result (Option ℕ) FieldError) → k ≡ device_kind_of (m / 281474976710656 % 16) → ((s : Site) → upstream_outcome s u ≡ upstream_by s (m / 4294967296 % 65536))
     → device_row p (record { kind = k; usb4 = eqb (m / 4503599627370496 % 16) 1; domain = m % 4294967296; route = r; upstream = u }) ≡ device_word p r m
 unfolding device_row device_word
 device_made p r m k u e g = rw (e, g) refl
 
 -- ---- devices
 
-pub device_past_routes : (q : ℕ) (rs ms : List ℕ) (i : ℕ) → length rs ≤ i → none ≡ device_in (devices_from q rs ms) i
+pub device_past_routes : (q : ℕ) (rs ms : List ℕ) (i : ℕ) → length rs ≤ i → None ≡ device_in (devices_from q rs ms) i
 unfolding devices_from device_in
 device_past_routes q [] ms i l = refl
 device_past_routes q (r ∷ rs) [] i l = refl
 device_past_routes q (r ∷ rs) (m ∷ ms) zero l = absurd (omega arith)
 device_past_routes q (r ∷ rs) (m ∷ ms) (suc i) l = device_past_routes (suc q) rs ms i (omega arith)
 
-pub device_past_marks : (q : ℕ) (rs ms : List ℕ) (i : ℕ) → length ms ≤ i → none ≡ device_in (devices_from q rs ms) i
+pub device_past_marks : (q : ℕ) (rs ms : List ℕ) (i : ℕ) → length ms ≤ i → None ≡ device_in (devices_from q rs ms) i
 unfolding devices_from device_in
 device_past_marks q [] ms i l = refl
 device_past_marks q (r ∷ rs) [] i l = refl
@@ -296,11 +294,11 @@ device_past_marks q (r ∷ rs) (m ∷ ms) zero l = absurd (omega arith)
 device_past_marks q (r ∷ rs) (m ∷ ms) (suc i) l = device_past_marks (suc q) rs ms i (omega arith)
 
 -- place p is the i-th from q on
-pub device_at_lem : (q p : ℕ) (rs ms : List ℕ) (i : ℕ) → p ≡ q + i → i < length rs → i < length ms → some (device_word p (get_or rs i 0) (get_or ms i 0)) ≡ device_in (devices_from q rs ms) i
+pub device_at_lem : (q p : ℕ) (rs ms : List ℕ) (i : ℕ) → p ≡ q + i → i < length rs → i < length ms → Some (device_word p (get_or rs i 0) (get_or ms i 0)) ≡ device_in (devices_from q rs ms) i
 unfolding devices_from device_in
 device_at_lem q p [] ms i e l k = absurd (omega arith)
 device_at_lem q p (r ∷ rs) [] i e l k = absurd (omega arith)
-device_at_lem q p (r ∷ rs) (m ∷ ms) zero e l k = ap (λ (z : ℕ). some (device_word z r m)) (omega arith)
+device_at_lem q p (r ∷ rs) (m ∷ ms) zero e l k = ap (λ (z : ℕ). Some (device_word z r m)) (omega arith)
 device_at_lem q p (r ∷ rs) (m ∷ ms) (suc i) e l k = device_at_lem (suc q) p rs ms i (omega arith) (omega arith) (omega arith)
 
 -- ---- routers
@@ -335,7 +333,7 @@ and_false false y z n = refl
 
 module _ (rs ms : List ℕ) (d u i : ℕ) where
   pub router_here : i < length rs → i < length ms → get_or rs i 0 ≡ u → get_or ms i 0 / 281474976710656 % 16 ≡ 1 → get_or ms i 0 % 4294967296 ≡ d
-      → some i ≡ router_from i (devices_from i (drop i rs) (drop i ms)) d u
+      → Some i ≡ router_from i (devices_from i (drop i rs) (drop i ms)) d u
   unfolding devices_from router_from is_router device_word
   router_here l k e f g = rw (drop-cons rs i 0 l, drop-cons ms i 0 k) (simp (kind_one _ f, eq-eqb _ _ g, eq-eqb _ _ e))
 
@@ -345,14 +343,14 @@ module _ (rs ms : List ℕ) (d u i : ℕ) where
   router_on l k n =
       rw (add-one i, drop-cons rs i 0 l, drop-cons ms i 0 k)
       (ap
-      (λ (b : Bool). cond b (some i) (router_from (suc i) (devices_from (suc i) (drop (suc i) rs) (drop (suc i) ms)) d u))
+      (λ (b : Bool). cond b (Some i) (router_from (suc i) (devices_from (suc i) (drop (suc i) rs) (drop (suc i) ms)) d u))
       (and_false _ _ _ (λ x y z. n (eqb-true _ _ z) (kind_back _ x) (eqb-true _ _ y))))
 
-  pub router_past_routes : length rs ≤ i → none ≡ router_from i (devices_from i (drop i rs) (drop i ms)) d u
+  pub router_past_routes : length rs ≤ i → None ≡ router_from i (devices_from i (drop i rs) (drop i ms)) d u
   unfolding devices_from router_from
   router_past_routes l = rw (drop_of_length-le rs l) refl
 
-  pub router_past_marks : i < length rs → length ms ≤ i → none ≡ router_from i (devices_from i (drop i rs) (drop i ms)) d u
+  pub router_past_marks : i < length rs → length ms ≤ i → None ≡ router_from i (devices_from i (drop i rs) (drop i ms)) d u
   unfolding devices_from router_from
   router_past_marks k l = rw (drop-cons rs i 0 k, drop_of_length-le ms l) refl
 

@@ -1,6 +1,5 @@
 -- What the searches in tables answer. Assumes nothing.
-use Rattle.std.specs.Prelude.{ℕ, ◌+◌, ◌-◌, ◌≤◌, ◌<◌, ◌≡◌, List, length, get_or}
-use Rattle.std.proofs.Math.Option.{Option, none, some}
+use Rattle.std.specs.Prelude.{ℕ, ◌+◌, ◌-◌, ◌≤◌, ◌<◌, ◌≡◌, List, length, get_or, Option, None, Some, Err, Ok, Result}
 use Rattle.refusal.specs.Outcome.{Outcome, value}
 use Rattle.refusal.specs.Refusal.{refusal_of}
 use Rattle.refusal.specs.declared.Site.{Site}
@@ -8,17 +7,12 @@ use Rattle.refusal.specs.declared.Fault.TheVariants.{NoField}
 use Rattle.adapter.specs.Adapter.{AdapterRow, adapter_site, facts_row}
 use Rattle.tables.specs.Rows.{EntryRow, DeviceRow, entry_in, adapter_in}
 use Rattle.tables.specs.Packed.{entry_word, adapter_word, entries_in, adapters_in, entry_unit, adapter_unit, Sorted}
-use Rattle.tables.specs.declared.EntryAt.{EntryAt}
-use Rattle.tables.specs.declared.EntryAt.TheVariants as entry
-use Rattle.tables.specs.declared.AdapterFound.{AdapterFound}
-use Rattle.tables.specs.declared.AdapterFound.TheVariants as adapter
-use Rattle.tables.specs.declared.Upstream.{Upstream}
-use Rattle.tables.specs.declared.Upstream.TheVariants as upstream
 use Rattle.tables.specs.declared.DeviceFacts.{DeviceFacts}
-use Rattle.tables.specs.declared.DeviceFound.{DeviceFound}
-use Rattle.tables.specs.declared.DeviceFound.TheVariants as device
-use Rattle.tables.specs.declared.RouterFound.{RouterFound}
-use Rattle.tables.specs.declared.RouterFound.TheVariants as router
+use Rattle.adapter.specs.declared.Facts.{Facts}
+use Rattle.refusal.specs.declared.FieldError.{FieldError}
+use Rattle.refusal.specs.declared.FieldError.TheVariants as field
+use Rattle.adapter.specs.declared.EntryOut.{EntryOut}
+use Rattle.adapter.specs.Paths.{entry_out}
 
 -- r is where words that are not below a bound begin, as far as the words beside it tell
 pub record Boundary (t : List ℕ) (bound r : ℕ) : Type 0 where
@@ -27,38 +21,34 @@ pub record Boundary (t : List ℕ) (bound r : ℕ) : Type 0 where
   pub above : r < length t → bound ≤ get_or t r 0
 
 -- the entry for a HopID that was found
-unfoldable pub entry_found : ℕ → ℕ → ℕ → EntryAt → Option EntryRow
-entry_found p a h (entry.Entry out hop) = some (record { device = p; adapter = a; in_hop = h; out_adapter = out; out_hop = hop })
-entry_found p a h entry.Missing = none
+unfoldable pub entry_found : ℕ → ℕ → ℕ → Option EntryOut → Option EntryRow
+entry_found p a h (Some e) = Some (record { device = p; adapter = a; in_hop = h; out_adapter = e.out_adapter; out_hop = e.out_hop })
+entry_found p a h None = None
 
 -- In a table whose keys don't fall it is the first entry. In any other it is free whether an entry is found; one that is found stands in the table.
-pub record EntrySought (t : List ℕ) (p a h : ℕ) (r : EntryAt) : Type 0 where
+pub record EntrySought (t : List ℕ) (p a h : ℕ) (r : Option EntryOut) : Type 0 where
   pub first : p < 65536 → Sorted entry_unit t → entry_found p a h r ≡ entry_in (entries_in t) p a h
-  pub past : 65535 < p → r ≡ entry.Missing
-  pub held : (e : EntryRow) → entry_found p a h r ≡ some e → (k : ℕ) × (k < length t) × (entry_word (get_or t k 0) ≡ e)
+  pub past : 65535 < p → r ≡ None
+  pub held : (e : EntryRow) → entry_found p a h r ≡ Some e → (k : ℕ) × (k < length t) × (entry_word (get_or t k 0) ≡ e)
 
-unfoldable pub adapter_found : ℕ → AdapterFound → Option AdapterRow
-adapter_found p (adapter.Adapter f) = some (facts_row p f)
-adapter_found p adapter.Nowhere = none
+unfoldable pub adapter_found : ℕ → Option Facts → Option AdapterRow
+adapter_found p (Some f) = Some (facts_row p f)
+adapter_found p None = None
 
 -- the same for adapters
-pub record AdapterSought (t : List ℕ) (p a : ℕ) (r : AdapterFound) : Type 0 where
+pub record AdapterSought (t : List ℕ) (p a : ℕ) (r : Option Facts) : Type 0 where
   pub first : p < 65536 → Sorted adapter_unit t → adapter_found p r ≡ adapter_in (adapters_in t) p a
-  pub past : 65535 < p → r ≡ adapter.Nowhere
-  pub held : (x : AdapterRow) → adapter_found p r ≡ some x → (k : ℕ) × (k < length t) × (adapter_word (get_or t k 0) ≡ x) × (x.number ≡ a)
+  pub past : 65535 < p → r ≡ None
+  pub held : (x : AdapterRow) → adapter_found p r ≡ Some x → (k : ℕ) × (k < length t) × (adapter_word (get_or t k 0) ≡ x) × (x.number ≡ a)
 
-unfoldable pub upstream_outcome : Site → Upstream → Outcome (Option ℕ)
-upstream_outcome s (upstream.Adapter a) = value (some a)
-upstream_outcome s upstream.None = value none
-upstream_outcome s upstream.NoField = refusal_of (NoField s)
+unfoldable pub upstream_outcome : Site → Result (Option ℕ) FieldError → Outcome (Option ℕ)
+upstream_outcome s (Ok (Some a)) = value (Some a)
+upstream_outcome s (Ok None) = value None
+upstream_outcome s (Err e) = refusal_of (NoField s)
 
 unfoldable pub device_row : ℕ → DeviceFacts → DeviceRow
 device_row p d = record { kind = d.kind; usb4 = d.usb4; domain = d.domain; route = d.route; upstream = upstream_outcome (adapter_site p 0) d.upstream }
 
-unfoldable pub device_found : ℕ → DeviceFound → Option DeviceRow
-device_found p (device.Device d) = some (device_row p d)
-device_found p device.Nowhere = none
-
-unfoldable pub router_found : RouterFound → Option ℕ
-router_found (router.Place p) = some p
-router_found router.Nowhere = none
+unfoldable pub device_found : ℕ → Option DeviceFacts → Option DeviceRow
+device_found p (Some d) = Some (device_row p d)
+device_found p None = None

@@ -1,6 +1,5 @@
 -- Rows as words: an entry and an adapter one word, its key in the upper bits; a device one word in each of two tables. Assumes nothing.
-use Rattle.std.specs.Prelude.{ℕ, zero, suc, ◌+◌, ◌-◌, ◌/◌, ◌%◌, ◌^◌, ◌≤◌, ◌<◌, ◌≡◌, cond, List, [], ◌∷◌, map, eqb, length, get_or}
-use Rattle.std.proofs.Math.Option.{Option, none, some}
+use Rattle.std.specs.Prelude.{ℕ, zero, suc, ◌+◌, ◌-◌, ◌/◌, ◌%◌, ◌^◌, ◌≤◌, ◌<◌, ◌≡◌, cond, List, [], ◌∷◌, map, eqb, length, get_or, Option, None, Some}
 use Rattle.refusal.specs.Outcome.{Outcome, value}
 use Rattle.refusal.specs.Refusal.{refusal_of}
 use Rattle.refusal.specs.declared.Site.{Site}
@@ -56,15 +55,15 @@ speed_by s n =
 
 -- 0 is none, 1 is refused, any other is a number and 2
 unfoldable pub number_by : Site → ℕ → Outcome (Option ℕ)
-number_by s zero = value none
+number_by s zero = value None
 number_by s (suc zero) = refusal_of (NoField s)
-number_by s (suc (suc n)) = value (some n)
+number_by s (suc (suc n)) = value (Some n)
 
 -- the same for an adapter's number, which has eight bits
 unfoldable pub upstream_by : Site → ℕ → Outcome (Option ℕ)
-upstream_by s zero = value none
+upstream_by s zero = value None
 upstream_by s (suc zero) = refusal_of (NoField s)
-upstream_by s (suc (suc n)) = value (some (n % 256))
+upstream_by s (suc (suc n)) = value (Some (n % 256))
 
 -- device 16 bits, number 8, largest HopID 20, kind 4, state 4, speed 4, lane 0 4, lane 1 4
 unfoldable pub adapter_word : ℕ → AdapterRow

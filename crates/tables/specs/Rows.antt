@@ -1,6 +1,5 @@
 -- What a survey loads to: three lists of records, each with its owner's place. Assumes nothing.
-use Rattle.std.specs.Prelude.{ℕ, zero, suc, Bool, cond, ◌&&◌, List, [], ◌∷◌, ◌++◌, eqb}
-use Rattle.std.proofs.Math.Option.{Option, none, some}
+use Rattle.std.specs.Prelude.{ℕ, zero, suc, Bool, cond, ◌&&◌, List, [], ◌∷◌, ◌++◌, eqb, Option, None, Some}
 use Rattle.refusal.specs.Outcome.{Outcome}
 use Rattle.usb4.specs.Numbers.{device_kind_number}
 use Rattle.usb4.specs.declared.Kind.{Kind}
@@ -37,18 +36,18 @@ joined a b = record { entries = a.entries ++ b.entries; adapters = a.adapters ++
 
 -- the first entry for a HopID at an adapter of a device
 unfoldable pub entry_in : List EntryRow → ℕ → ℕ → ℕ → Option EntryRow
-entry_in [] p a h = none
-entry_in (e ∷ es) p a h = cond (eqb e.device p && eqb e.adapter a && eqb e.in_hop h) (some e) (entry_in es p a h)
+entry_in [] p a h = None
+entry_in (e ∷ es) p a h = cond (eqb e.device p && eqb e.adapter a && eqb e.in_hop h) (Some e) (entry_in es p a h)
 
 -- the adapter of a device with a number
 unfoldable pub adapter_in : List AdapterRow → ℕ → ℕ → Option AdapterRow
-adapter_in [] p a = none
-adapter_in (x ∷ xs) p a = cond (eqb x.device p && eqb x.number a) (some x) (adapter_in xs p a)
+adapter_in [] p a = None
+adapter_in (x ∷ xs) p a = cond (eqb x.device p && eqb x.number a) (Some x) (adapter_in xs p a)
 
 -- the device at a place
 unfoldable pub device_in : List DeviceRow → ℕ → Option DeviceRow
-device_in [] p = none
-device_in (d ∷ ds) zero = some d
+device_in [] p = None
+device_in (d ∷ ds) zero = Some d
 device_in (d ∷ ds) (suc p) = device_in ds p
 
 unfoldable pub is_router : DeviceRow → Bool
@@ -56,5 +55,5 @@ is_router d = eqb (device_kind_number d.kind) (device_kind_number kind.Router)
 
 -- the place of the first router of a domain at a route, where the first device here has place p
 unfoldable pub router_from : ℕ → List DeviceRow → ℕ → ℕ → Option ℕ
-router_from p [] domain route = none
-router_from p (d ∷ ds) domain route = cond (is_router d && eqb d.domain domain && eqb d.route route) (some p) (router_from (suc p) ds domain route)
+router_from p [] domain route = None
+router_from p (d ∷ ds) domain route = cond (is_router d && eqb d.domain domain && eqb d.route route) (Some p) (router_from (suc p) ds domain route)

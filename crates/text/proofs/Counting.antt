@@ -1,4 +1,5 @@
 -- The words that the grammar counts are the words that are written. Assumes nothing.
+use Rattle.std.specs.Prelude.{None, Option, Some}
 use Prim.Native.Nat.{ℕ, ◌+◌, ◌*◌, ◌≤◌}
 use native.Mathlib.Omega.{arith}
 use mathlib.Core.Path.{◌≡◌, refl, ap}
@@ -15,8 +16,6 @@ use Rattle.markers.specs.Markers.{Marker, Marker.router, Marker.xdomain, Marker.
 use Rattle.grammar.specs.Grammar.{Item, Item.marker, Item.record', Item.other, to_usb4, to_regs, to_adapter, to_paths, step_of, in_dump, item_step, marker_size, item_size, check_by, check_from, most_bytes, most_words, items_of, in_limit, check_answer}
 use Rattle.grammar.specs.declared.Under.{Under}
 use Rattle.grammar.specs.declared.Under.TheVariants as under
-use Rattle.grammar.specs.declared.Step.{Step}
-use Rattle.grammar.specs.declared.Step.TheVariants as step
 use Rattle.text.specs.Text.{Section, records_of, sections_of, path_group, device_words, marker_words, survey_words}
 use Rattle.text.specs.Work.{Low}
 use Rattle.text.proofs.Dumps.{length_sorted, high_low}
@@ -59,11 +58,11 @@ length_marker no_paths rs ss = refl
 length_marker bad rs ss = refl
 
 -- a step that leads on leads into a dump, or doesn't
-data Into (b : Bool) : Step → Type 0 where
-  stops : Into b step.Wrong
-  goes : {u : Under} → is_dump u ≡ b → Into b (step.On u)
+data Into (b : Bool) : Option Under → Type 0 where
+  stops : Into b None
+  goes : {u : Under} → is_dump u ≡ b → Into b (Some u)
 
-into_regs : (r : Bool) → Into true (cond r (step.On under.DeviceDump) step.Wrong)
+into_regs : (r : Bool) → Into true (cond r (Some under.DeviceDump) None)
 unfolding is_dump
 into_regs true = goes refl
 into_regs false = stops
@@ -115,9 +114,9 @@ leads no_paths under.NoDump = stops
 leads bad u = stops
 
 -- a record leads on in a dump alone, and stays there
-data Stays (u : Under) : Step → Type 0 where
-  outside : Stays u step.Wrong
-  inside : is_dump u ≡ true → Stays u (step.On u)
+data Stays (u : Under) : Option Under → Type 0 where
+  outside : Stays u None
+  inside : is_dump u ≡ true → Stays u (Some u)
 
 stays : (u : Under) → Stays u (in_dump u)
 unfolding in_dump is_dump
@@ -132,7 +131,7 @@ stays under.NoDump = outside
 
 -- ---- the words made, those of the records up to the next marker, and those of the sections after it, are all words
 
-by_marker : (m : Marker) (s : Step) (made n : ℕ) (is : List Item) → Into (opens_dump m) s
+by_marker : (m : Marker) (s : Option Under) (made n : ℕ) (is : List Item) → Into (opens_dump m) s
     → ((v : Under) → check_from (made + marker_size m) v is ≡ value n → n ≡ made + marker_size m + pending v is + length (survey_words (sections_of is)))
     → check_by made (λ v. check_from (made + marker_size m) v is) s ≡ value n → n ≡ made + length (survey_words (sections_of (marker m ∷ is)))
 unfolding check_by pending sections_of survey_words
@@ -140,7 +139,7 @@ by_marker m _ made n is stops ih e = let z : ◌≡◌ {A = ℕ} 0 1 = cc in abs
 by_marker m _ made n is (goes {u} d) ih e =
     omega (arith, ih u e, ap (λ b. cond b (4 * length (records_of is)) 0) d, length_marker m (records_of is) (sections_of is), length-append (marker_words m (records_of is) (sections_of is)) (survey_words (sections_of is)))
 
-by_record : (u : Under) (s : Step) (made n : ℕ) (r : Register) (is : List Item) → Stays u s
+by_record : (u : Under) (s : Option Under) (made n : ℕ) (r : Register) (is : List Item) → Stays u s
     → ((v : Under) → check_from (made + 4) v is ≡ value n → n ≡ made + 4 + pending v is + length (survey_words (sections_of is)))
     → check_by made (λ v. check_from (made + 4) v is) s ≡ value n → n ≡ made + pending u (record' r ∷ is) + length (survey_words (sections_of (record' r ∷ is)))
 unfolding check_by pending sections_of records_of

@@ -1,4 +1,5 @@
 -- Laws on a dump that is read into a part of the output. Assumes nothing.
+use Rattle.std.specs.Prelude.{Err, Ok, Result}
 use Prim.Native.Nat.{ℕ, zero, suc, ◌+◌, ◌-◌, ◌*◌, ◌%◌, ◌<◌, ◌≤◌}
 use native.Mathlib.Omega.{arith}
 use native.Mathlib.Decide.{dec_lt}
@@ -10,21 +11,22 @@ use lib.ListN.{length, take, drop, get_or, length-map, length-append, length-dro
 use lib.Seq.{take_all, take_at, drop_at, drop-drop, get_or-take, get_or-drop, length-take-le}
 use borrow.Author.Tests.{le-ltb, ltb-true, ltb-false}
 use borrow.Rule.Slice.PartMut.{put_mid}
-use Rattle.refusal.specs.Outcome.{Outcome, refused, value}
+use Rattle.refusal.specs.Outcome.{value}
 use Rattle.scan.specs.Scan.{lines, is_high, is_line_feed, before, place_from, on_first, pieces, filled, ended}
 use Rattle.register.specs.declared.Register.{Register}
 use Rattle.groups.specs.Group.{group_of, words}
 use Rattle.groups.specs.declared.Group.{Group}
 use Rattle.dump.specs.Sort.{insert, sort}
 use Rattle.room.specs.Records.{records_of as dump_records, words_needed}
-use Rattle.dump.specs.Dump.{offset, records_in, dump_words, dump_answer, output_after, dump_outcome, ReadDone}
-use Rattle.dump.specs.declared.Dump.{Dump}
-use Rattle.dump.specs.declared.Dump.TheVariants as dump
+use Rattle.dump.specs.Dump.{offset, records_in, dump_words, dump_answer, output_after, ReadDone}
 use Rattle.dump.proofs.Groups.{length_words}
 use Rattle.room.proofs.Lines.{count_cons, record_bytes}
 use Rattle.text.specs.Work.{Low, path_words, PutAt}
 use Rattle.text.specs.Text.{path_group}
 use Rattle.scan.proofs.Laws.{stops}
+use Rattle.refusal.specs.Refusal.{outcome}
+use Rattle.refusal.specs.declared.Refusal.{Refusal}
+use Rattle.refusal.proofs.Laws.{not_refused}
 
 -- ---- how long
 
@@ -123,26 +125,19 @@ module _ (s scratch out : List ℕ) (low : Low s) (in_scratch : length (dump_wor
   unfolding dump_answer place_from
   answer_is = simp (le-ltb (0 + before is_high s) (length s) (omega (arith, low_high s low)), le-ltb (length scratch) (words_needed s) (omega (arith, length_dump s)), le-ltb (length out) (words_needed s) (omega (arith, length_dump s)))
 
-  module _ (r : Dump) (scratch' out' : List ℕ) (done : ReadDone s scratch out r scratch' out') where
-    outcome_is : dump_outcome r ≡ value (length (dump_records (lines s)))
+  module _ (r : Result ℕ Refusal) (scratch' out' : List ℕ) (done : ReadDone s scratch out r scratch' out') where
+    outcome_is : outcome r ≡ value (length (dump_records (lines s)))
     outcome_is = done.answers ∙ answer_is
 
-    read_gives : (n : ℕ) → r ≡ dump.Records n → (4 * n ≡ length (dump_words s)) × (out' ≡ dump_words s ++ drop (4 * n) out)
-    unfolding dump_outcome output_after words_needed
+    read_gives : (n : ℕ) → r ≡ Ok n → (4 * n ≡ length (dump_words s)) × (out' ≡ dump_words s ++ drop (4 * n) out)
+    unfolding output_after words_needed
     read_gives n e =
-        let o : value n ≡ value (length (dump_records (lines s))) = sym (ap dump_outcome e) ∙ outcome_is in
+        let o : value n ≡ value (length (dump_records (lines s))) = sym (ap outcome e) ∙ outcome_is in
         let m : n ≡ length (dump_records (lines s)) = cc in
         (ap (λ k. 4 * k) m ∙ sym (length_dump s), done.writes ∙ ap (λ q. output_after q s out) outcome_is ∙ ap (λ k. dump_words s ++ drop (4 * k) out) (sym m))
 
-    not_high : (p : ℕ) → r ≡ dump.NotAscii p → ⊥
-    unfolding dump_outcome
-    not_high p e = let o : ◌≡◌ {A = Outcome ℕ} (refused 1 (p ∷ [])) (value (length (dump_records (lines s)))) = sym (ap dump_outcome e) ∙ outcome_is in
-        let z : ◌≡◌ {A = ℕ} 0 1 = cc in omega arith
-
-    not_short : (p : ℕ) → r ≡ dump.Short p → ⊥
-    unfolding dump_outcome
-    not_short p e = let o : ◌≡◌ {A = Outcome ℕ} (refused 2 (p ∷ [])) (value (length (dump_records (lines s)))) = sym (ap dump_outcome e) ∙ outcome_is in
-        let z : ◌≡◌ {A = ℕ} 0 1 = cc in omega arith
+    not_refusing : (e : Refusal) → r ≡ Err e → ⊥
+    not_refusing e k = not_refused e _ (sym (ap outcome k) ∙ outcome_is)
 
 -- words that stand at the front of the part from k on
 put_part : (ws out part' : List ℕ) (k n : ℕ) → k + n ≤ length out → n ≡ length ws → part' ≡ ws ++ drop n (take (length out - k) (drop k out)) → PutAt ws k out (k + n) (put_mid k (length out - k) out part')
@@ -162,17 +157,14 @@ module _ (body scratch out : List ℕ) (k room : ℕ) (low : Low body) (fits : k
   back : length (dump_words body) ≤ length (take (length out - k) (drop k out))
   back = omega (arith, length-take-le (length out - k) (drop k out) (omega (arith, length-drop k out)), length-drop k out)
 
-  module _ {r : Dump} {scratch' out' : List ℕ} (done : ReadDone body (take room scratch) (take (length out - k) (drop k out)) r scratch' out') where
-    pub dump_put : (n : ℕ) → r ≡ dump.Records n → (k + 4 * n ≤ length out) × PutAt (dump_words body) k out (k + 4 * n) (put_mid k (length out - k) out out')
+  module _ {r : (Result ℕ Refusal)} {scratch' out' : List ℕ} (done : ReadDone body (take room scratch) (take (length out - k) (drop k out)) r scratch' out') where
+    pub dump_put : (n : ℕ) → r ≡ Ok n → (k + 4 * n ≤ length out) × PutAt (dump_words body) k out (k + 4 * n) (put_mid k (length out - k) out out')
     dump_put n e =
         let g = read_gives body _ _ low front back r scratch' out' done n e in
         (omega (arith, g.0), put_part (dump_words body) out out' k (4 * n) (omega (arith, g.0)) g.0 g.1)
 
-    pub no_high : (p : ℕ) → r ≡ dump.NotAscii p → ⊥
-    no_high = not_high body _ _ low front back r scratch' out' done
-
-    pub no_short : (p : ℕ) → r ≡ dump.Short p → ⊥
-    no_short = not_short body _ _ low front back r scratch' out' done
+    pub no_refusal : (e : Refusal) → r ≡ Err e → ⊥
+    no_refusal = not_refusing body _ _ low front back r scratch' out' done
 
 -- ---- words put at k, and others of the same length in their place
 module _ (D out o : List ℕ) (k r : ℕ) (fits : k + length D ≤ length out) (puts : PutAt D k out r o) where

@@ -1,4 +1,5 @@
 -- Laws on groups that get bit 16. Assumes nothing.
+use Rattle.std.specs.Prelude.{Err, None, Ok, Option, Result, Some}
 use Prim.Native.Nat.{ℕ, ◌+◌, ◌*◌, ◌%◌, ◌<◌, ◌≤◌}
 use native.Mathlib.Omega.{arith}
 use native.Mathlib.Nat.{add-zero}
@@ -9,15 +10,11 @@ use lib.Dec.{leb, ltb, eqb}
 use lib.ListN.{length, take, drop, get_or, set, length-append, length-drop, length-set, take-append-drop, drop_of_length-le}
 use lib.Seq.{set_at, length-take-le, take_all, take_at, drop_at, drop-drop, get_or-drop}
 use Rattle.util.specs.Number.{hex_number}
-use Rattle.util.specs.declared.Number.{Number}
-use Rattle.util.specs.declared.Number.TheVariants as number
 use Rattle.util.proofs.Laws.{hex_le}
 use Rattle.scan.specs.Scan.{tokens, lines}
 use Rattle.register.specs.declared.Skip.TheVariants.{Comment, Few}
 use Rattle.register.specs.Line.{max16, is_comment, with_token, register_of, four_tokens, five_tokens, by_tokens, meaning}
 use Rattle.register.specs.declared.Register.{Register}
-use Rattle.register.specs.declared.Met.{Met}
-use Rattle.register.specs.declared.Met.TheVariants as met
 use Rattle.groups.specs.Group.{group_of, words}
 use Rattle.dump.proofs.Groups.{Whole, Whole.empty, Whole.group, whole}
 use Rattle.dump.specs.Sort.{insert, sort}
@@ -25,6 +22,7 @@ use Rattle.room.specs.Records.{with_record, records_of as dump_records}
 use Rattle.dump.specs.Dump.{offset, records_in, dump_words}
 use Rattle.text.specs.Text.{path_group}
 use Rattle.text.specs.Work.{marked, path_words}
+use Rattle.register.specs.declared.Skip.{Skip}
 
 -- ---- the loop: groups before i are marked
 
@@ -104,37 +102,37 @@ Narrow : Register → Type 0
 Narrow r = r.offset ≤ 65535
 
 -- the offset is a line's first token, of 16 bits
-narrow_by : (k : ℕ) (a : List ℕ) (rest : ℕ → Met) → ((v : ℕ) → v ≤ 65535 → (r : Register) → rest v ≡ met.Record r → Narrow r) → (r : Register) → with_token k (hex_number max16 a) rest ≡ met.Record r → Narrow r
+narrow_by : (k : ℕ) (a : List ℕ) (rest : ℕ → (Result Register Skip)) → ((v : ℕ) → v ≤ 65535 → (r : Register) → rest v ≡ Ok r → Narrow r) → (r : Register) → with_token k (hex_number max16 a) rest ≡ Ok r → Narrow r
 unfolding with_token
 narrow_by k a rest f = step (hex_number max16 a) refl
   where
-    step : (n : Number) → hex_number max16 a ≡ n → (r : Register) → with_token k n rest ≡ met.Record r → Narrow r
-    step number.None e r q = let z : ◌≡◌ {A = ℕ} 0 1 = cc in absurd (omega arith)
-    step (number.Value v) e r q = f v (hex_le max16 a v e) r q
+    step : (n : Option ℕ) → hex_number max16 a ≡ n → (r : Register) → with_token k n rest ≡ Ok r → Narrow r
+    step None e r q = let z : ◌≡◌ {A = ℕ} 0 1 = cc in absurd (omega arith)
+    step (Some v) e r q = f v (hex_le max16 a v e) r q
 
 -- any other token leaves it
-kept_by : (k : ℕ) (n : Number) (rest : ℕ → Met) → ((v : ℕ) (r : Register) → rest v ≡ met.Record r → Narrow r) → (r : Register) → with_token k n rest ≡ met.Record r → Narrow r
+kept_by : (k : ℕ) (n : Option ℕ) (rest : ℕ → (Result Register Skip)) → ((v : ℕ) (r : Register) → rest v ≡ Ok r → Narrow r) → (r : Register) → with_token k n rest ≡ Ok r → Narrow r
 unfolding with_token
-kept_by k number.None rest f r q = let z : ◌≡◌ {A = ℕ} 0 1 = cc in absurd (omega arith)
-kept_by k (number.Value v) rest f r q = f v r q
+kept_by k None rest f r q = let z : ◌≡◌ {A = ℕ} 0 1 = cc in absurd (omega arith)
+kept_by k (Some v) rest f r q = f v r q
 
-narrow_is : (o a b c x : ℕ) → o ≤ 65535 → (r : Register) → met.Record (register_of o a b c x) ≡ met.Record r → Narrow r
+narrow_is : (o a b c x : ℕ) → o ≤ 65535 → (r : Register) → ◌≡◌ {A = Result Register Skip} (Ok (register_of o a b c x)) (Ok r) → Narrow r
 unfolding register_of Narrow
 narrow_is o a b c x h r q = let e : register_of o a b c x ≡ r = cc in omega (arith, ap (λ (y : Register). y.offset) e)
 
-narrow_four : (a b d : List ℕ) (r : Register) → four_tokens a b d ≡ met.Record r → Narrow r
+narrow_four : (a b d : List ℕ) (r : Register) → four_tokens a b d ≡ Ok r → Narrow r
 unfolding four_tokens
 narrow_four a b d = narrow_by 0 a _ (λ o h. kept_by 1 _ _ (λ u. kept_by 3 _ _ (λ v. narrow_is o u 0 0 v h)))
 
-narrow_five : (a b c d e : List ℕ) (r : Register) → five_tokens a b c d e ≡ met.Record r → Narrow r
+narrow_five : (a b c d e : List ℕ) (r : Register) → five_tokens a b c d e ≡ Ok r → Narrow r
 unfolding five_tokens
 narrow_five a b c d e = narrow_by 0 a _ (λ o h. kept_by 1 _ _ (λ u. kept_by 2 _ _ (λ v. kept_by 3 _ _ (λ w. kept_by 4 _ _ (λ x. narrow_is o u v w x h)))))
 
-narrow_line : (l : List ℕ) (r : Register) → meaning l ≡ met.Record r → Narrow r
+narrow_line : (l : List ℕ) (r : Register) → meaning l ≡ Ok r → Narrow r
 unfolding meaning by_tokens
 narrow_line l r q = step (is_comment l) (ltb (length (tokens l)) 4) (eqb (length (tokens l)) 4) q
   where
-    step : (c f g : Bool) → cond c (met.Skipped Comment) (cond f (met.Skipped Few) (cond g (four_tokens (get_or (tokens l) 0 []) (get_or (tokens l) 1 []) (get_or (tokens l) 3 [])) (five_tokens (get_or (tokens l) 0 []) (get_or (tokens l) 1 []) (get_or (tokens l) 2 []) (get_or (tokens l) 3 []) (get_or (tokens l) 4 [])))) ≡ met.Record r → Narrow r
+    step : (c f g : Bool) → cond c (Err Comment) (cond f (Err Few) (cond g (four_tokens (get_or (tokens l) 0 []) (get_or (tokens l) 1 []) (get_or (tokens l) 3 [])) (five_tokens (get_or (tokens l) 0 []) (get_or (tokens l) 1 []) (get_or (tokens l) 2 []) (get_or (tokens l) 3 []) (get_or (tokens l) 4 [])))) ≡ Ok r → Narrow r
     step true f g e = let z : ◌≡◌ {A = ℕ} 0 1 = cc in absurd (omega arith)
     step false true g e = let z : ◌≡◌ {A = ℕ} 0 1 = cc in absurd (omega arith)
     step false false true e = narrow_four _ _ _ r e
@@ -145,9 +143,9 @@ unfolding dump_records with_record
 narrow_records [] = none
 narrow_records (l ∷ ls) = step (meaning l) refl (narrow_records ls)
   where
-    step : (m : Met) → meaning l ≡ m → All Narrow (dump_records ls) → All Narrow (with_record m (dump_records ls))
-    step (met.Record r) e a = more (narrow_line l r e) a
-    step (met.Skipped w) e a = a
+    step : (m : Result Register Skip) → meaning l ≡ m → All Narrow (dump_records ls) → All Narrow (with_record m (dump_records ls))
+    step (Ok r) e a = more (narrow_line l r e) a
+    step (Err w) e a = a
 
 marked_words : (rs : List Register) → All Narrow rs → marked (words (map group_of rs)) ≡ words (map path_group rs)
 unfolding marked words group_of path_group Narrow

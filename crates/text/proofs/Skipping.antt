@@ -1,4 +1,5 @@
 -- Laws on lines that are no markers, and on the sections of a text. Assumes nothing.
+use Rattle.std.specs.Prelude.{Err, Ok, Result}
 use Prim.Native.Nat.{ℕ, suc, ◌+◌, ◌-◌, ◌<◌, ◌≤◌}
 use native.Mathlib.Omega.{arith}
 use native.Mathlib.Nat.{add-zero}
@@ -14,14 +15,13 @@ use Rattle.scan.specs.Scan.{lines, is_line_feed, before, place_from}
 use Rattle.scan.proofs.Laws.{stops, line_at, lines_end, place_above, place_within, place_on}
 use Rattle.register.specs.Line.{meaning}
 use Rattle.register.specs.declared.Register.{Register}
-use Rattle.register.specs.declared.Met.{Met}
-use Rattle.register.specs.declared.Met.TheVariants as met
 use Rattle.room.specs.Records.{with_record, records_of as dump_records}
 use Rattle.markers.specs.Markers.{is_marker, marker_of}
 use Rattle.grammar.specs.Grammar.{Item, Item.marker, item_by, item_of, items_of}
 use Rattle.grammar.proofs.Laws.{items_at, items_end}
 use Rattle.text.specs.Text.{records_of, sections_of}
 use Rattle.text.specs.Work.{sections_from, records_from, part_of, Skipped}
+use Rattle.register.specs.declared.Skip.{Skip}
 
 pub sections_end : (t : List ℕ) (at : ℕ) → length t ≤ at → sections_from t at ≡ []
 unfolding sections_from sections_of
@@ -50,15 +50,15 @@ is_marker_lem t at e q h f =
     (l, ap (λ b. eqb b 64) (first_byte t at e l ∙ f))
 
 -- a line that is no marker has no section, and a record or none
-item_sections : (m : Met) (is : List Item) → sections_of (item_by m ∷ is) ≡ sections_of is
+item_sections : (m : Result Register Skip) (is : List Item) → sections_of (item_by m ∷ is) ≡ sections_of is
 unfolding item_by sections_of
-item_sections (met.Record r) is = refl
-item_sections (met.Skipped w) is = refl
+item_sections (Ok r) is = refl
+item_sections (Err w) is = refl
 
-item_records : (m : Met) (is : List Item) → records_of (item_by m ∷ is) ≡ with_record m (records_of is)
+item_records : (m : Result Register Skip) (is : List Item) → records_of (item_by m ∷ is) ≡ with_record m (records_of is)
 unfolding item_by records_of with_record
-item_records (met.Record r) is = refl
-item_records (met.Skipped w) is = refl
+item_records (Ok r) is = refl
+item_records (Err w) is = refl
 
 item_plain : (l : List ℕ) → is_marker l ≡ false → item_of l ≡ item_by (meaning l)
 unfolding item_of
@@ -69,10 +69,10 @@ unfolding item_of
 item_marker l h = simp h
 
 -- the records of lines and of more lines
-with_append : (m : Met) (a b : List Register) → with_record m (a ++ b) ≡ with_record m a ++ b
+with_append : (m : Result Register Skip) (a b : List Register) → with_record m (a ++ b) ≡ with_record m a ++ b
 unfolding with_record
-with_append (met.Record r) a b = refl
-with_append (met.Skipped w) a b = refl
+with_append (Ok r) a b = refl
+with_append (Err w) a b = refl
 
 pub records_append : (ls ms : List (List ℕ)) → dump_records (ls ++ ms) ≡ dump_records ls ++ dump_records ms
 unfolding dump_records

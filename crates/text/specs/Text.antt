@@ -1,5 +1,5 @@
 -- Document 01, the program's text to survey words, each dump sorted as the dump reader sorts it. Assumes nothing.
-use Rattle.std.specs.Prelude.{ℕ, ◌+◌, ◌*◌, ◌/◌, ◌%◌, ◌≡◌, Bool, true, false, cond, List, [], ◌∷◌, ◌++◌, map, ltb, length, drop}
+use Rattle.std.specs.Prelude.{ℕ, ◌+◌, ◌*◌, ◌/◌, ◌%◌, ◌≡◌, Bool, true, false, cond, List, [], ◌∷◌, ◌++◌, map, ltb, length, drop, Result}
 use Rattle.refusal.specs.Outcome.{Outcome, refused, value, bind}
 use Rattle.register.specs.declared.Register.{Register}
 use Rattle.groups.specs.Group.{group_of, words}
@@ -8,8 +8,8 @@ use Rattle.dump.specs.Sort.{sort}
 use Rattle.dump.specs.Dump.{offset}
 use Rattle.markers.specs.Markers.{Marker, Marker.router, Marker.xdomain, Marker.usb4, Marker.regs, Marker.adapter, Marker.paths, Marker.no_paths, Marker.bad}
 use Rattle.grammar.specs.Grammar.{Item, Item.marker, Item.record', Item.other, items_of, check_answer}
-use Rattle.text.specs.declared.TextAnswer.{TextAnswer}
-use Rattle.text.specs.declared.TextAnswer.TheVariants as answer
+use Rattle.refusal.specs.Refusal.{outcome}
+use Rattle.refusal.specs.declared.Refusal.{Refusal}
 
 -- a marker, and the records up to the next
 pub record Section : Type 0 where
@@ -121,14 +121,7 @@ unfoldable pub output_by : Outcome (List ℕ) → List ℕ → List ℕ
 output_by (refused n vs) old = old
 output_by (value ws) old = cond (ltb (length old) (length ws)) old (ws ++ drop (length ws) old)
 
--- document 01's number and values for what is answered
-unfoldable pub text_outcome : TextAnswer → Outcome ℕ
-text_outcome (answer.Words n) = value n
-text_outcome (answer.Short n) = refused 2 (n ∷ [])
-text_outcome (answer.NotAscii p) = refused 1 (p ∷ [])
-text_outcome (answer.Wrong p) = refused 4 (p ∷ [])
-
 -- the whole outcome of the call
-pub record TextDone (t output : List ℕ) (r : TextAnswer) (output' : List ℕ) : Type 0 where
-  pub answers : text_outcome r ≡ bind (survey_of t) (in_room (length output))
+pub record TextDone (t output : List ℕ) (r : Result ℕ Refusal) (output' : List ℕ) : Type 0 where
+  pub answers : outcome r ≡ bind (survey_of t) (in_room (length output))
   pub writes : output' ≡ output_by (survey_of t) output

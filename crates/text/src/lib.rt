@@ -6,18 +6,9 @@ ghost use Rattle.dump.specs.Dump.{dump_words};
 ghost use Rattle.text.specs.Text.{bit, device_head, adapter_head, device_words, survey_words, TextDone};
 ghost use Rattle.text.specs.Work.{sections_from, Stands, Low, next_mark, path_by, Skipped, NextLine, PastMark, path_words, body_words, PutAt, marked};
 
-use dump::Dump;
-use grammar::{Checked, MOST_WORDS};
+use grammar::MOST_WORDS;
 use markers::Mark;
-
-// How many survey words a text makes, the words needed or the text's length where it is too long (2), the place of a byte above 127 (1), or the words made before a line that is wrong, 16,384 for too many (4).
-#[derive(Clone, Copy)]
-pub enum TextAnswer {
-    Words(usize),
-    Short(usize),
-    NotAscii(usize),
-    Wrong(usize),
-}
+use refusal::Refusal;
 
 // Words that the small scratch has room for.
 const FEW_WORDS: usize = 1024;
@@ -175,11 +166,10 @@ fn put_dump(body: &[u8], scratch: &mut [u32], out: &mut [u32], k: usize) -> usiz
     ensures { PutAt (dump_words body.now) k out.old result out.new }
 {
     let room = least(body.len(), scratch.len());
-    match dump::read(body, &mut scratch[..room], &mut out[k..]) {
-        Dump::Records(n) => k + 4 * n,
-        Dump::NotAscii(_) => k,
-        Dump::Short(_) => k,
-    }
+    let Ok(n) = dump::read(body, &mut scratch[..room], &mut out[k..]) else {
+        return k;
+    };
+    k + 4 * n
 }
 
 // Gives the heads of register groups bit 16: path space.
@@ -187,10 +177,8 @@ fn mark_groups(groups: &mut [u32])
     requires { length groups.old % 4 ≡ 0 }
     ensures { groups.new ≡ marked groups.old }
 {
-    let mut i: usize = 0;
-    while i < groups.len() {
+    for i in (0..groups.len()).step_by(4) {
         groups[i] = 1342242816 + groups[i] % 65536;
-        i += 4;
     }
 }
 
@@ -283,19 +271,13 @@ fn put_words(text: &[u8], n: usize, long: bool, output: &mut [u32])
 }
 
 // A text to survey words.
-pub fn read(text: &[u8], output: &mut [u32]) -> TextAnswer
+pub fn read(text: &[u8], output: &mut [u32]) -> Result<usize, Refusal>
     ensures { TextDone text.now output.old result output.new }
 {
-    match grammar::check(text) {
-        Checked::Long(n) => TextAnswer::Short(n),
-        Checked::NotAscii(p) => TextAnswer::NotAscii(p),
-        Checked::Wrong(p) => TextAnswer::Wrong(p),
-        Checked::Words(n) => {
-            if output.len() < n {
-                return TextAnswer::Short(n);
-            }
-            put_words(text, n, false, output);
-            TextAnswer::Words(n)
-        }
+    let n = grammar::check(text)?;
+    if output.len() < n {
+        return Err(Refusal::Short(n));
     }
+    put_words(text, n, false, output);
+    Ok(n)
 }

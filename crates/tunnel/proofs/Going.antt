@@ -3,24 +3,22 @@ use Prim.Native.Nat.{ℕ, zero, suc, ◌<◌}
 use mathlib.Core.Path.{◌≡◌, refl, sym, ap, ◌∙◌, subst}
 use mathlib.Core.Bool.{◌&&◌}
 use mathlib.Core.List.{List, [], ◌∷◌}
-use mathlib.Core.Option.{Option, none, some}
+use Rattle.std.specs.Prelude.{Option, None, Some, Ok, Err, Result}
 use native.Mathlib.Omega.{arith}
 use lib.Dec.{eqb}
 use lib.ListN.{length, get_or}
 use Rattle.refusal.specs.Outcome.{Outcome, refused, value, bind}
 use Rattle.tables.specs.Rows.{EntryRow, Rows}
 use Rattle.tables.specs.Packed.{entries_in}
-use Rattle.load.specs.Answers.{refused_by}
-use Rattle.load.specs.declared.Refusal.{Refusal}
-use Rattle.load.proofs.Result.{refused_bind}
+use Rattle.refusal.specs.Refusal.{refused_by}
+use Rattle.refusal.specs.declared.Refusal.{Refusal}
+use Rattle.refusal.proofs.Laws.{refused_bind}
 use Rattle.orbit.specs.Walk.{Spot, Spot.stand, Spot.ended, Spot.stopped, found, arrive, turned, made, onward, walk_n}
 use Rattle.fabric.specs.Fabric.{Way, Way.on, Way.last, Way.dropped, leads}
 use Rattle.fabric.specs.Tables.{rows_with}
 use Rattle.walk.specs.Walking.{Stand, End, turn_by, walk_on}
 use Rattle.walk.specs.Rule.{walk_from, stand_of}
 use Rattle.walk.specs.Tables.{rows_of, Tabled, Leaving, last_of, leaving_by, leaving_of, leaves, tally_outcome, Tallied}
-use Rattle.walk.specs.declared.Walked.{Walked}
-use Rattle.walk.specs.declared.Walked.TheVariants as walked
 use Rattle.walk.proofs.Leading.{there_below, leads_there, upstreams}
 use Rattle.walk.proofs.Laws.{hopped, path_rule}
 use Rattle.path.proofs.Writing.{refused_as_lem}
@@ -29,6 +27,8 @@ use Rattle.receive.specs.Receive.{at}
 use Rattle.tunnel.specs.Tunnels.{leaving}
 use Rattle.tunnel.specs.Plans.{start_of}
 use Rattle.tunnel.specs.Work.{leaves_by}
+use Rattle.walk.specs.Tables.{walked_to}
+use Rattle.walk.specs.declared.Walked.{Walked}
 
 -- ---- outcomes
 
@@ -38,21 +38,21 @@ unfolding bind
 refuses (refused n vs) g k z e = sym (refused_bind z (λ y. refused 0 [])) ∙ ap (λ w. bind w (λ y. refused 0 [])) e
 refuses (value y) g k z e = absurd (let w = refused_as_lem (value (g y)) z e in let v = w.2 in let u : ◌≡◌ {A = ℕ} 0 1 = cc in omega arith)
 
-leaves_none : (o : Outcome (Option (List EntryRow))) → value none ≡ bind o (λ y. value (leaves y)) → (o ≡ value (some []) → ⊥) → o ≡ value none
+leaves_none : (o : Outcome (Option (List EntryRow))) → value None ≡ bind o (λ y. value (leaves y)) → (o ≡ value (Some []) → ⊥) → o ≡ value None
 unfolding bind leaves leaving_of
 leaves_none (refused k vs) e n = absurd (let z : ◌≡◌ {A = ℕ} 0 1 = cc in omega arith)
-leaves_none (value none) e n = refl
-leaves_none (value (some [])) e n = absurd (n refl)
-leaves_none (value (some (h ∷ hs))) e n = absurd (let z : ◌≡◌ {A = ℕ} 0 1 = cc in omega arith)
+leaves_none (value None) e n = refl
+leaves_none (value (Some [])) e n = absurd (n refl)
+leaves_none (value (Some (h ∷ hs))) e n = absurd (let z : ◌≡◌ {A = ℕ} 0 1 = cc in omega arith)
 
 -- a path's number of hops, and its last hop's place and out adapter
-leaves_some : (o : Outcome (Option (List EntryRow))) (l : Leaving) → value (some l) ≡ bind o (λ y. value (leaves y))
-    → (e : EntryRow) × (es : List EntryRow) × (o ≡ value (some (e ∷ es))) × (suc (length es) ≡ l.hops) × ((last_of e es).device ≡ l.place) × ((last_of e es).out_adapter ≡ l.adapter)
+leaves_some : (o : Outcome (Option (List EntryRow))) (l : Leaving) → value (Some l) ≡ bind o (λ y. value (leaves y))
+    → (e : EntryRow) × (es : List EntryRow) × (o ≡ value (Some (e ∷ es))) × (suc (length es) ≡ l.hops) × ((last_of e es).device ≡ l.place) × ((last_of e es).out_adapter ≡ l.adapter)
 unfolding bind leaves leaving_of leaving_by
 leaves_some (refused k vs) l e = absurd (let z : ◌≡◌ {A = ℕ} 0 1 = cc in omega arith)
-leaves_some (value none) l e = absurd (let z : ◌≡◌ {A = ℕ} 0 1 = cc in omega arith)
-leaves_some (value (some [])) l e = absurd (let z : ◌≡◌ {A = ℕ} 0 1 = cc in omega arith)
-leaves_some (value (some (y ∷ ys))) l e =
+leaves_some (value None) l e = absurd (let z : ◌≡◌ {A = ℕ} 0 1 = cc in omega arith)
+leaves_some (value (Some [])) l e = absurd (let z : ◌≡◌ {A = ℕ} 0 1 = cc in omega arith)
+leaves_some (value (Some (y ∷ ys))) l e =
     let z : l ≡ leaving_by (suc (length ys)) (last_of y ys) = cc in
     (y, ys, refl, ap (λ (v : Leaving). v.hops) (sym z), ap (λ (v : Leaving). v.place) (sym z), ap (λ (v : Leaving). v.adapter) (sym z))
 
@@ -67,8 +67,8 @@ module _ (x : Rows) (s : Stand) (k : ℕ) (start : s.place < k) (goes : (p o q a
 
   below_found : (y : Stand) (o : Option EntryRow) → y.place < k → Below (found y o)
   unfolding found
-  below_found y none l = tt
-  below_found y (some h) l = l
+  below_found y None l = tt
+  below_found y (Some h) l = l
 
   below_turn : (p : ℕ) (e : EntryRow) (o : Outcome Way) → leads x p e.out_adapter ≡ o → Below (turned (walk_on x) (turn_by e o))
   unfolding turned turn_by arrive
@@ -79,8 +79,8 @@ module _ (x : Rows) (s : Stand) (k : ℕ) (start : s.place < k) (goes : (p o q a
 
   below_made : (y : Stand) (o : Option EntryRow) → Below (made (walk_on x) y o)
   unfolding made walk_on
-  below_made y none = tt
-  below_made y (some e) = below_turn y.place e _ refl
+  below_made y None = tt
+  below_made y (Some e) = below_turn y.place e _ refl
 
   below_onward : (z : Spot Stand End) → Below (onward (walk_on x) z)
   unfolding onward
@@ -99,8 +99,8 @@ unfolding walk_n arrive found
 starts_at x s y q = go ((walk_on x).hop s) q
   where
     go : (o : Option EntryRow) → found {E = End} s o ≡ stand y → y ≡ s
-    go none p = absurd (let z : ◌≡◌ {A = ℕ} 0 1 = cc in omega arith)
-    go (some h) p = cc
+    go None p = absurd (let z : ◌≡◌ {A = ℕ} 0 1 = cc in omega arith)
+    go (Some h) p = cc
 
 last_at : (d e : EntryRow) (es : List EntryRow) → last_of e es ≡ get_or (e ∷ es) (length es) d
 unfolding last_of
@@ -111,7 +111,7 @@ last_at d e (h ∷ hs) = last_at d h hs
 
 -- a path of a walk from s: n hops, and it leaves by adapter a of the device at place q, below k
 pub record Went (x : Rows) (s : Stand) (n q a k : ℕ) (hs : List EntryRow) : Type 0 where
-  pub walk : walk_from x s ≡ value (some hs)
+  pub walk : walk_from x s ≡ value (Some hs)
   pub count : length hs ≡ n
   pub start : start_of hs ≡ s
   pub leave : (h : ℕ) → leaving h hs ≡ at q a h
@@ -119,7 +119,7 @@ pub record Went (x : Rows) (s : Stand) (n q a k : ℕ) (hs : List EntryRow) : Ty
   pub there : q < k
 
 -- a path starts where its walk does
-pub path_start : (x : Rows) (s : Stand) (hs : List EntryRow) → walk_from x s ≡ value (some hs) → start_of hs ≡ s
+pub path_start : (x : Rows) (s : Stand) (hs : List EntryRow) → walk_from x s ≡ value (Some hs) → start_of hs ≡ s
 unfolding start_of
 path_start x s [] e = absurd (let h = hopped x s [] e in omega (arith, h.one, h.long))
 path_start x s (e ∷ es) q =
@@ -128,7 +128,7 @@ path_start x s (e ∷ es) q =
 
 module _ (en ad ro ma : List ℕ) (s : Stand) where
   -- and its last hop is made at a device that is there
-  last_there : (e : EntryRow) (es : List EntryRow) → walk_from (rows_of en ad ro ma) s ≡ value (some (e ∷ es)) → (last_of e es).device < length ro
+  last_there : (e : EntryRow) (es : List EntryRow) → walk_from (rows_of en ad ro ma) s ≡ value (Some (e ∷ es)) → (last_of e es).device < length ro
   unfolding rows_of stand_of
   last_there e es q =
       let x = rows_of en ad ro ma in
@@ -139,20 +139,20 @@ module _ (en ad ro ma : List ℕ) (s : Stand) where
       goes : (p o q a : ℕ) → leads (rows_of en ad ro ma) p o ≡ value (on q a) → q < length ro
       goes p o q a f = there_below (entries_in en) ad ro ma q (leads_there (rows_with (entries_in en) ad ro ma) (upstreams (entries_in en) ad ro ma) p o q a f)
 
-  module _ (r : Walked) (f : Tallied en ad ro ma s r) (t : Tabled en ad ro) (l : s.place < 65536) where
-    pub tally_refused : {A : Type 0} (z : Refusal) (k : Option (List EntryRow) → Outcome A) → r ≡ walked.Refused z → refused_by z ≡ bind (walk_from (rows_of en ad ro ma) s) k
+  module _ (r : Result (Option Walked) Refusal) (f : Tallied en ad ro ma s r) (t : Tabled en ad ro) (l : s.place < 65536) where
+    pub tally_refused : {A : Type 0} (z : Refusal) (k : Option (List EntryRow) → Outcome A) → r ≡ Err z → refused_by z ≡ bind (walk_from (rows_of en ad ro ma) s) k
     unfolding tally_outcome
     tally_refused z k e = refuses (walk_from (rows_of en ad ro ma) s) leaves k z (sym (ap tally_outcome e) ∙ f.answers t l)
 
-    pub tally_absent : r ≡ walked.Absent → walk_from (rows_of en ad ro ma) s ≡ value none
+    pub tally_absent : r ≡ (Ok None) → walk_from (rows_of en ad ro ma) s ≡ value None
     unfolding tally_outcome
     tally_absent e = leaves_none (walk_from (rows_of en ad ro ma) s) (sym (ap tally_outcome e) ∙ f.answers t l) (λ q. let h = hopped (rows_of en ad ro ma) s [] q in omega (arith, h.one, h.long))
 
-    pub tally_path : (n q a h : ℕ) → r ≡ walked.Path n q a h → (hs : List EntryRow) × Went (rows_of en ad ro ma) s n q a (length ro) hs
+    pub tally_path : (n q a h : ℕ) → r ≡ walked_to n q a h → (hs : List EntryRow) × Went (rows_of en ad ro ma) s n q a (length ro) hs
     unfolding tally_outcome leaving leaves_by at
     tally_path n q a h e = go (leaves_some (walk_from (rows_of en ad ro ma) s) (record { hops = n; place = q; adapter = a; hop_id = h }) (sym (ap tally_outcome e) ∙ f.answers t l))
       where
-        go : (y : EntryRow) × (ys : List EntryRow) × (walk_from (rows_of en ad ro ma) s ≡ value (some (y ∷ ys))) × (suc (length ys) ≡ n) × ((last_of y ys).device ≡ q) × ((last_of y ys).out_adapter ≡ a)
+        go : (y : EntryRow) × (ys : List EntryRow) × (walk_from (rows_of en ad ro ma) s ≡ value (Some (y ∷ ys))) × (suc (length ys) ≡ n) × ((last_of y ys).device ≡ q) × ((last_of y ys).out_adapter ≡ a)
             → (hs : List EntryRow) × Went (rows_of en ad ro ma) s n q a (length ro) hs
         go (y, ys, w, c, d, o) = (
           y ∷ ys,

@@ -3,7 +3,7 @@ use Prim.Native.Nat.{ℕ, ◌+◌, ◌*◌, ◌≤◌, ◌<◌}
 use mathlib.Core.Path.{◌≡◌, refl, sym, ap, ◌∙◌}
 use mathlib.Core.Bool.{Bool, false, ◌&&◌}
 use mathlib.Core.List.{List, [], ◌∷◌}
-use mathlib.Core.Option.{Option, none, some}
+use Rattle.std.specs.Prelude.{Option, None, Some, Ok, Err, Result}
 use native.Mathlib.Omega.{arith}
 use lib.Dec.{eqb}
 use lib.ListN.{length, length-append}
@@ -11,47 +11,46 @@ use Rattle.refusal.specs.Outcome.{Outcome, refused, value, bind}
 use Rattle.usb4.specs.declared.TunnelType.{TunnelType}
 use Rattle.usb4.specs.declared.TunnelType.TheVariants as tunnel_type
 use Rattle.tables.specs.Rows.{EntryRow, Rows}
-use Rattle.load.specs.Answers.{refused_by}
-use Rattle.load.specs.declared.Refusal.{Refusal}
-use Rattle.load.proofs.Result.{refused_bind}
+use Rattle.refusal.specs.Refusal.{refused_by}
+use Rattle.refusal.specs.declared.Refusal.{Refusal}
+use Rattle.refusal.proofs.Laws.{refused_bind}
 use Rattle.walk.specs.Walking.{Stand}
 use Rattle.walk.specs.Rule.{walk_from, stand_of}
 use Rattle.walk.specs.Tables.{rows_of, Tabled, Tallied}
-use Rattle.walk.specs.declared.Walked.{Walked}
-use Rattle.walk.specs.declared.Walked.TheVariants as walked
 use Rattle.path.specs.Words.{path_words, words_needed}
 use Rattle.path.proofs.Writing.{length_path_words, stood}
 use Rattle.path.proofs.Answering.{hops_few}
 use Rattle.receive.specs.Receive.{at}
 use Rattle.tunnel.specs.Tunnels.{Path, Tunnel, path, leaving, or_absent, needed, tunnel_of, down_and_up, display_port}
 use Rattle.tunnel.specs.Words.{back_to, last_path, closed_by, closed, paths_words, tunnel_words}
-use Rattle.tunnel.specs.Plans.{From, Plan, start_of, from_of, plan_of, plan_if, from_by, planned_outcome, words_by, paths_by, Plans}
+use Rattle.tunnel.specs.Plans.{From, Plan, start_of, from_of, plan_of, plan_if, from_by, planned_as, planned_outcome, words_by, paths_by, Plans}
 use Rattle.tunnel.specs.Work.{Draws, start_by, leaves_by, last_plan, finished, auxiliary, one_path}
 use Rattle.tunnel.specs.declared.Start.{Start}
-use Rattle.tunnel.specs.declared.Planned.{Planned}
-use Rattle.tunnel.specs.declared.Planned.TheVariants as answer
+use Rattle.tunnel.specs.declared.Plan.{Plan as Planned}
 use Rattle.tunnel.proofs.Going.{path_start, tally_refused, tally_absent, tally_path}
+use Rattle.walk.specs.Tables.{walked_to}
+use Rattle.walk.specs.declared.Walked.{Walked}
 
 -- ---- a walk that must give a path
 
 module _ {A : Type 0} (x : Rows) (s : Stand) where
-  pub needed_path : (hs : List EntryRow) (f : List EntryRow → Outcome (Option A)) → walk_from x s ≡ value (some hs) → needed x s f ≡ f hs
+  pub needed_path : (hs : List EntryRow) (f : List EntryRow → Outcome (Option A)) → walk_from x s ≡ value (Some hs) → needed x s f ≡ f hs
   unfolding needed bind or_absent
   needed_path hs f e = ap (λ o. bind o (λ y. or_absent y f)) e
 
-  pub needed_none : (f : List EntryRow → Outcome (Option A)) → walk_from x s ≡ value none → needed x s f ≡ value none
+  pub needed_none : (f : List EntryRow → Outcome (Option A)) → walk_from x s ≡ value None → needed x s f ≡ value None
   unfolding needed bind or_absent
   needed_none f e = ap (λ o. bind o (λ y. or_absent y f)) e
 
   -- only its own path matters
-  pub needed_same : (f g : List EntryRow → Outcome (Option A)) → ((hs : List EntryRow) → walk_from x s ≡ value (some hs) → f hs ≡ g hs) → needed x s f ≡ needed x s g
+  pub needed_same : (f g : List EntryRow → Outcome (Option A)) → ((hs : List EntryRow) → walk_from x s ≡ value (Some hs) → f hs ≡ g hs) → needed x s f ≡ needed x s g
   unfolding needed bind or_absent
   needed_same f g h = go (walk_from x s) refl
     where
       go : (o : Outcome (Option (List EntryRow))) → walk_from x s ≡ o → bind o (λ y. or_absent y f) ≡ bind o (λ y. or_absent y g)
       go (refused n vs) e = refl
-      go (value none) e = refl
-      go (value (some hs)) e = h hs e
+      go (value None) e = refl
+      go (value (Some hs)) e = h hs e
 
 -- a plan, if there is one
 abbrev pub planned : Outcome (Option Tunnel) → Outcome (Option Plan)
@@ -63,8 +62,8 @@ needed_plan x s f = go (walk_from x s)
   where
     go : (o : Outcome (Option (List EntryRow))) → planned (bind o (λ y. or_absent y f)) ≡ bind o (λ y. or_absent y (λ hs. planned (f hs)))
     go (refused n vs) = refl
-    go (value none) = refl
-    go (value (some hs)) = refl
+    go (value None) = refl
+    go (value (Some hs)) = refl
 
 -- ---- words, and the closed mark
 
@@ -89,16 +88,16 @@ plan t c w l = record { type = t; closed = c; words = w; starts = l }
 abbrev pub from : Stand → ℕ → From
 from s n = record { stand = s; name = n }
 
-pub same_plan : (t : TunnelType) {c d : Bool} {v w : ℕ} {l m : List From} → c ≡ d → v ≡ w → l ≡ m → value (some (plan t c v l)) ≡ value (some (plan t d w m))
-same_plan t {c} {d} {v} {w} {l} {m} e f g = ap (λ z. value (some (plan t z v l))) e ∙ ap (λ z. value (some (plan t d z l))) f ∙ ap (λ z. value (some (plan t d w z))) g
+pub same_plan : (t : TunnelType) {c d : Bool} {v w : ℕ} {l m : List From} → c ≡ d → v ≡ w → l ≡ m → value (Some (plan t c v l)) ≡ value (Some (plan t d w m))
+same_plan t {c} {d} {v} {w} {l} {m} e f g = ap (λ z. value (Some (plan t z v l))) e ∙ ap (λ z. value (Some (plan t d z l))) f ∙ ap (λ z. value (Some (plan t d w z))) g
 
 -- a tunnel of one path, of two, and of three
-pub one_plan_lem : (t : TunnelType) (n : ℕ) (s : Stand) (hs : List EntryRow) → start_of hs ≡ s → value (some (plan_of (record { type = t; paths = path n hs ∷ [] }))) ≡ value (some (plan t false (1 + (1 + 2 * length hs)) (from s n ∷ [])))
+pub one_plan_lem : (t : TunnelType) (n : ℕ) (s : Stand) (hs : List EntryRow) → start_of hs ≡ s → value (Some (plan_of (record { type = t; paths = path n hs ∷ [] }))) ≡ value (Some (plan t false (1 + (1 + 2 * length hs)) (from s n ∷ [])))
 unfolding plan_of path closed closed_by tunnel_words from_of
 one_plan_lem t n s hs e = same_plan t refl (omega (arith, paths_words_lem (path n hs) [], no_words)) (ap (λ z. from z n ∷ []) e)
 
 pub two_paths : (t : TunnelType) (down up p a h w : ℕ) (s : Stand) (ds us : List EntryRow) → 0 < length ds → start_of ds ≡ at p a h → start_of us ≡ s → w ≡ 1 + 2 * length ds
-    → planned (tunnel_of t (path down ds ∷ path up us ∷ [])) ≡ value (some (plan t (leaves_by us p a) (1 + w + (1 + 2 * length us)) (from (at p a h) down ∷ from s up ∷ [])))
+    → planned (tunnel_of t (path down ds ∷ path up us ∷ [])) ≡ value (Some (plan t (leaves_by us p a) (1 + w + (1 + 2 * length us)) (from (at p a h) down ∷ from s up ∷ [])))
 unfolding bind tunnel_of plan_if plan_of path closed closed_by last_path tunnel_words from_of at
 two_paths t down up p a h w s ds us l e f g = same_plan t
     (back_to_lem ds us l ∙ ap (λ (z : Stand). leaves_by us z.place z.adapter) e)
@@ -107,7 +106,7 @@ two_paths t down up p a h w s ds us l e f g = same_plan t
 
 three_paths : (p a w : ℕ) (s : Stand) (vs ts rs : List EntryRow) → 0 < length vs → start_of vs ≡ at p a 9 → start_of ts ≡ at p a 8 → start_of rs ≡ s → w ≡ 1 + 2 * length vs
     → planned (tunnel_of tunnel_type.DisplayPort (path 2 vs ∷ path 3 ts ∷ path 4 rs ∷ []))
-    ≡ value (some (plan tunnel_type.DisplayPort (leaves_by rs p a) (1 + w + (1 + 2 * length ts) + (1 + 2 * length rs)) (from (at p a 9) 2 ∷ from (at p a 8) 3 ∷ from s 4 ∷ [])))
+    ≡ value (Some (plan tunnel_type.DisplayPort (leaves_by rs p a) (1 + w + (1 + 2 * length ts) + (1 + 2 * length rs)) (from (at p a 9) 2 ∷ from (at p a 8) 3 ∷ from s 4 ∷ [])))
 unfolding bind tunnel_of plan_if plan_of path closed closed_by last_path tunnel_words from_of at
 three_paths p a w s vs ts rs l e f g k = same_plan tunnel_type.DisplayPort
     (back_to_lem vs rs l ∙ ap (λ (z : Stand). leaves_by rs z.place z.adapter) e)
@@ -121,39 +120,39 @@ abbrev pub Words : ℕ → ℕ → Type 0
 Words n w = (w ≤ 131071) × (n < 65536 → w ≡ 1 + 2 * n)
 
 module _ (en ad ro ma : List ℕ) (p : ℕ) where
-  pub plans_refused : (f : Rows → Outcome (Option Tunnel)) (z : Refusal) → (Tabled en ad ro → p < 65536 → refused_by z ≡ f (rows_of en ad ro ma)) → Plans en ad ro ma p f (answer.Refused z)
+  pub plans_refused : (f : Rows → Outcome (Option Tunnel)) (z : Refusal) → (Tabled en ad ro → p < 65536 → refused_by z ≡ f (rows_of en ad ro ma)) → Plans en ad ro ma p f (Err z)
   unfolding planned_outcome words_by paths_by
   plans_refused f z g = record { answers = λ y t l. sym (refused_bind z (λ o. value (plan_if o))) ∙ ap planned (g t l); few = omega arith; three = omega arith }
 
-  pub plans_absent : (f : Rows → Outcome (Option Tunnel)) → (Tabled en ad ro → p < 65536 → value none ≡ f (rows_of en ad ro ma)) → Plans en ad ro ma p f answer.Absent
+  pub plans_absent : (f : Rows → Outcome (Option Tunnel)) → (Tabled en ad ro → p < 65536 → value None ≡ f (rows_of en ad ro ma)) → Plans en ad ro ma p f (Ok None)
   unfolding planned_outcome words_by paths_by bind plan_if
   plans_absent f g = record { answers = λ y t l. ap planned (g t l); few = omega arith; three = omega arith }
 
-  pub draws_refused : (f : Rows → Outcome (Option Plan)) (z : Refusal) → (Tabled en ad ro → p < 65536 → refused_by z ≡ f (rows_of en ad ro ma)) → Draws en ad ro ma p f (answer.Refused z)
+  pub draws_refused : (f : Rows → Outcome (Option Plan)) (z : Refusal) → (Tabled en ad ro → p < 65536 → refused_by z ≡ f (rows_of en ad ro ma)) → Draws en ad ro ma p f (Err z)
   unfolding planned_outcome words_by paths_by
   draws_refused f z g = record { answers = λ y t l. g t l; few = omega arith; three = omega arith }
 
-  pub draws_absent : (f : Rows → Outcome (Option Plan)) → (Tabled en ad ro → p < 65536 → value none ≡ f (rows_of en ad ro ma)) → Draws en ad ro ma p f answer.Absent
+  pub draws_absent : (f : Rows → Outcome (Option Plan)) → (Tabled en ad ro → p < 65536 → value None ≡ f (rows_of en ad ro ma)) → Draws en ad ro ma p f (Ok None)
   unfolding planned_outcome words_by paths_by
   draws_absent f g = record { answers = λ y t l. g t l; few = omega arith; three = omega arith }
 
 -- a ring's tunnel of one path
-pub one_answer : (w : ℕ) (s : Start) {a b d : Start} → a ≡ s → b ≡ s → d ≡ s → answer.Tunnel tunnel_type.Dma false w 1 a b d ≡ one_path w s
+pub one_answer : (w : ℕ) (s : Start) {a b d : Start} → a ≡ s → b ≡ s → d ≡ s → planned_as tunnel_type.Dma false w 1 a b d ≡ one_path w s
 unfolding one_path
-one_answer w s {a} {b} {d} e f g = ap (λ z. answer.Tunnel tunnel_type.Dma false w 1 z b d) e ∙ ap (λ z. answer.Tunnel tunnel_type.Dma false w 1 s z d) f ∙ ap (λ z. answer.Tunnel tunnel_type.Dma false w 1 s s z) g
+one_answer w s {a} {b} {d} e f g = ap (λ z. planned_as tunnel_type.Dma false w 1 z b d) e ∙ ap (λ z. planned_as tunnel_type.Dma false w 1 s z d) f ∙ ap (λ z. planned_as tunnel_type.Dma false w 1 s s z) g
 
 -- the last path
-module _ (en ad ro ma : List ℕ) (kind : TunnelType) (words paths : ℕ) (first second last : Start) (r : Walked) (f : Tallied en ad ro ma (stood last.place last.adapter last.hop) r) where
-  pub finish_refused : (z : Refusal) → r ≡ walked.Refused z → Draws en ad ro ma last.place (λ x. finished x kind words paths first second last) (answer.Refused z)
+module _ (en ad ro ma : List ℕ) (kind : TunnelType) (words paths : ℕ) (first second last : Start) (r : Result (Option Walked) Refusal) (f : Tallied en ad ro ma (stood last.place last.adapter last.hop) r) where
+  pub finish_refused : (z : Refusal) → r ≡ Err z → Draws en ad ro ma last.place (λ x. finished x kind words paths first second last) (Err z)
   unfolding finished needed at
   finish_refused z e = draws_refused en ad ro ma _ _ z (λ t l. tally_refused en ad ro ma _ r f t l z _ e)
 
-  pub finish_absent : r ≡ walked.Absent → Draws en ad ro ma last.place (λ x. finished x kind words paths first second last) answer.Absent
+  pub finish_absent : r ≡ (Ok None) → Draws en ad ro ma last.place (λ x. finished x kind words paths first second last) (Ok None)
   unfolding finished at
   finish_absent e = draws_absent en ad ro ma _ _ (λ t l. sym (needed_none _ _ _ (tally_absent en ad ro ma _ r f t l e)))
 
-  pub finish_path : (n q a h w : ℕ) (c : Bool) → r ≡ walked.Path n q a h → c ≡ (eqb q first.place && eqb a first.adapter) → Words n w → words ≤ 262143 → paths ≤ 3
-      → Draws en ad ro ma last.place (λ x. finished x kind words paths first second last) (answer.Tunnel kind c (words + w) paths first second last)
+  pub finish_path : (n q a h w : ℕ) (c : Bool) → r ≡ walked_to n q a h → c ≡ (eqb q first.place && eqb a first.adapter) → Words n w → words ≤ 262143 → paths ≤ 3
+      → Draws en ad ro ma last.place (λ x. finished x kind words paths first second last) (Ok (Some (planned_as kind c (words + w) paths first second last)))
   unfolding finished at last_plan planned_outcome words_by paths_by
   finish_path n q a h w c e g (m, k) v o = record {
     answers = λ y t l.
@@ -166,16 +165,16 @@ module _ (en ad ro ma : List ℕ) (kind : TunnelType) (words paths : ℕ) (first
   }
 
 -- two paths
-module _ (en ad ro ma : List ℕ) (p a : ℕ) (kind : TunnelType) (down up : ℕ) (r : Walked) (f : Tallied en ad ro ma (stood p a 8) r) where
-  pub down_refused : (z : Refusal) → r ≡ walked.Refused z → Plans en ad ro ma p (λ x. down_and_up x kind down up p a) (answer.Refused z)
+module _ (en ad ro ma : List ℕ) (p a : ℕ) (kind : TunnelType) (down up : ℕ) (r : Result (Option Walked) Refusal) (f : Tallied en ad ro ma (stood p a 8) r) where
+  pub down_refused : (z : Refusal) → r ≡ Err z → Plans en ad ro ma p (λ x. down_and_up x kind down up p a) (Err z)
   unfolding down_and_up needed at
   down_refused z e = plans_refused en ad ro ma p _ z (λ t l. tally_refused en ad ro ma _ r f t l z _ e)
 
-  pub down_absent : r ≡ walked.Absent → Plans en ad ro ma p (λ x. down_and_up x kind down up p a) answer.Absent
+  pub down_absent : r ≡ (Ok None) → Plans en ad ro ma p (λ x. down_and_up x kind down up p a) (Ok None)
   unfolding down_and_up at
   down_absent e = plans_absent en ad ro ma p _ (λ t l. sym (needed_none _ _ _ (tally_absent en ad ro ma _ r f t l e)))
 
-  pub down_path : (n q b h w : ℕ) (first second third : Start) (y : Planned) → r ≡ walked.Path n q b h → Words n w → first ≡ start_by (at p a 8) down → second ≡ start_by (at q b 8) up → third ≡ start_by (at q b 8) up
+  pub down_path : (n q b h w : ℕ) (first second third : Start) (y : Result (Option Planned) Refusal) → r ≡ walked_to n q b h → Words n w → first ≡ start_by (at p a 8) down → second ≡ start_by (at q b 8) up → third ≡ start_by (at q b 8) up
       → Draws en ad ro ma third.place (λ x. finished x kind (1 + w) 2 first second third) y → Plans en ad ro ma p (λ x. down_and_up x kind down up p a) y
   unfolding down_and_up at finished last_plan start_by from_by
   down_path n q b h w first second third y e (m, k) i j o d = record {
@@ -197,16 +196,16 @@ module _ (en ad ro ma : List ℕ) (p a : ℕ) (kind : TunnelType) (down up : ℕ
   }
 
 -- AUX TX, then AUX RX from where it leaves
-module _ (en ad ro ma : List ℕ) (p a words : ℕ) (r : Walked) (f : Tallied en ad ro ma (stood p a 8) r) where
-  pub aux_refused : (z : Refusal) → r ≡ walked.Refused z → Draws en ad ro ma p (λ x. auxiliary x p a words) (answer.Refused z)
+module _ (en ad ro ma : List ℕ) (p a words : ℕ) (r : Result (Option Walked) Refusal) (f : Tallied en ad ro ma (stood p a 8) r) where
+  pub aux_refused : (z : Refusal) → r ≡ Err z → Draws en ad ro ma p (λ x. auxiliary x p a words) (Err z)
   unfolding auxiliary needed at
   aux_refused z e = draws_refused en ad ro ma p _ z (λ t l. tally_refused en ad ro ma _ r f t l z _ e)
 
-  pub aux_absent : r ≡ walked.Absent → Draws en ad ro ma p (λ x. auxiliary x p a words) answer.Absent
+  pub aux_absent : r ≡ (Ok None) → Draws en ad ro ma p (λ x. auxiliary x p a words) (Ok None)
   unfolding auxiliary at
   aux_absent e = draws_absent en ad ro ma p _ (λ t l. sym (needed_none _ _ _ (tally_absent en ad ro ma _ r f t l e)))
 
-  pub aux_path : (n q b h w : ℕ) (first second third : Start) (y : Planned) → r ≡ walked.Path n q b h → Words n w → first ≡ start_by (at p a 9) 2 → second ≡ start_by (at p a 8) 3 → third ≡ start_by (at q b 8) 4
+  pub aux_path : (n q b h w : ℕ) (first second third : Start) (y : Result (Option Planned) Refusal) → r ≡ walked_to n q b h → Words n w → first ≡ start_by (at p a 9) 2 → second ≡ start_by (at p a 8) 3 → third ≡ start_by (at q b 8) 4
       → Draws en ad ro ma third.place (λ x. finished x tunnel_type.DisplayPort (words + w) 3 first second third) y → Draws en ad ro ma p (λ x. auxiliary x p a words) y
   unfolding auxiliary at start_by
   aux_path n q b h w first second third y e (m, k) i j o d = record {
@@ -225,16 +224,16 @@ module _ (en ad ro ma : List ℕ) (p a words : ℕ) (r : Walked) (f : Tallied en
   }
 
 -- three paths
-module _ (en ad ro ma : List ℕ) (p a : ℕ) (r : Walked) (f : Tallied en ad ro ma (stood p a 9) r) where
-  pub video_refused : (z : Refusal) → r ≡ walked.Refused z → Plans en ad ro ma p (λ x. display_port x p a) (answer.Refused z)
+module _ (en ad ro ma : List ℕ) (p a : ℕ) (r : Result (Option Walked) Refusal) (f : Tallied en ad ro ma (stood p a 9) r) where
+  pub video_refused : (z : Refusal) → r ≡ Err z → Plans en ad ro ma p (λ x. display_port x p a) (Err z)
   unfolding display_port needed at
   video_refused z e = plans_refused en ad ro ma p _ z (λ t l. tally_refused en ad ro ma _ r f t l z _ e)
 
-  pub video_absent : r ≡ walked.Absent → Plans en ad ro ma p (λ x. display_port x p a) answer.Absent
+  pub video_absent : r ≡ (Ok None) → Plans en ad ro ma p (λ x. display_port x p a) (Ok None)
   unfolding display_port at
   video_absent e = plans_absent en ad ro ma p _ (λ t l. sym (needed_none _ _ _ (tally_absent en ad ro ma _ r f t l e)))
 
-  pub video_path : (n q b h w : ℕ) (y : Planned) → r ≡ walked.Path n q b h → Words n w → Draws en ad ro ma p (λ x. auxiliary x p a (1 + w)) y → Plans en ad ro ma p (λ x. display_port x p a) y
+  pub video_path : (n q b h w : ℕ) (y : Result (Option Planned) Refusal) → r ≡ walked_to n q b h → Words n w → Draws en ad ro ma p (λ x. auxiliary x p a (1 + w)) y → Plans en ad ro ma p (λ x. display_port x p a) y
   unfolding display_port auxiliary at finished last_plan start_by from_by
   video_path n q b h w y e (m, k) d = record {
     answers = λ v t l.

@@ -3,34 +3,33 @@ use Prim.Native.Nat.{ℕ, zero, suc, ◌+◌, ◌*◌, ◌≤◌, ◌<◌}
 use mathlib.Core.Path.{◌≡◌, refl, sym, ap, ◌∙◌, subst}
 use mathlib.Core.Bool.{Bool, true, false, cond, ◌&&◌}
 use mathlib.Core.List.{List, [], ◌∷◌}
-use mathlib.Core.Option.{Option, none, some}
+use Rattle.std.specs.Prelude.{Option, None, Some, Ok, Err, Result}
 use native.Mathlib.Omega.{arith}
 use lib.Dec.{eqb}
 use lib.ListN.{length}
 use Rattle.refusal.specs.Outcome.{Outcome, refused, value, bind}
 use Rattle.usb4.specs.declared.TunnelType.TheVariants as tunnel_type
 use Rattle.tables.specs.Rows.{EntryRow, DeviceRow, Rows}
-use Rattle.load.specs.declared.Refusal.{Refusal}
-use Rattle.load.proofs.Result.{refused_bind}
+use Rattle.refusal.specs.declared.Refusal.{Refusal}
+use Rattle.refusal.proofs.Laws.{refused_bind}
 use Rattle.walk.specs.Rule.{stand_of}
 use Rattle.walk.specs.Tables.{rows_of, last_of, leaving_by, Tallied}
-use Rattle.walk.specs.declared.Walked.{Walked}
-use Rattle.walk.specs.declared.Walked.TheVariants as walked
 use Rattle.path.specs.Put.{Sized}
 use Rattle.path.proofs.Writing.{stood}
 use Rattle.path.proofs.Answering.{hops_few}
 use Rattle.receive.specs.Receive.{at, Lane, Lane.lane, Lane.passed, Lane.dropped as drop, lane_of, Receive, Receive.received, Receive.nothing, Receive.lost, uses_ring, or_rest, among_hops, at_lane, or_next, among_devices, receive}
-use Rattle.receive.specs.Tables.{Said, Said.none as said-none, Said.dropped, said_of, received_outcome, hops_by, Receives}
+use Rattle.receive.specs.Tables.{Said, Said.none as said-none, Said.dropped, said_of, received_outcome, path_of, hops_by, Receives}
 use Rattle.receive.specs.declared.Received.{Received}
 use Rattle.receive.specs.declared.Received.TheVariants as found
-use Rattle.tunnel.specs.Tunnels.{path, tunnel_of, tx_path, with_paths, ring_tunnel, one_dma}
-use Rattle.tunnel.specs.Plans.{Plan, start_of, plan_if, from_by, planned_outcome, words_by, paths_by, Plans}
+use Rattle.tunnel.specs.Tunnels.{tunnel_of, tx_path, with_paths, ring_tunnel, one_dma}
+use Rattle.tunnel.specs.Plans.{Plan, start_of, plan_if, from_by, planned_as, planned_outcome, words_by, paths_by, Plans}
 use Rattle.tunnel.specs.Work.{Draws, start_by, leaves_by, one_path, one_plan, alone_plan, with_plan, ring_by}
 use Rattle.tunnel.specs.declared.Start.{Start}
-use Rattle.tunnel.specs.declared.Planned.{Planned}
-use Rattle.tunnel.specs.declared.Planned.TheVariants as answer
+use Rattle.tunnel.specs.declared.Plan.{Plan as Planned}
 use Rattle.tunnel.proofs.Going.{tally_refused, tally_absent, tally_path}
 use Rattle.tunnel.proofs.Planning.{planned, Words, plan, from, same_plan, one_plan_lem, two_paths, plans_refused, draws_refused}
+use Rattle.walk.specs.Tables.{walked_to}
+use Rattle.walk.specs.declared.Walked.{Walked}
 
 -- ---- a receive path has a hop
 
@@ -45,9 +44,9 @@ module _ (x : Rows) (ring : ℕ) where
   hops_rest : (rest : Outcome Receive) (o : Outcome (Option (List EntryRow))) → Hops rest → Hops (bind o (or_rest ring rest))
   unfolding bind or_rest uses_ring
   hops_rest rest (refused n vs) k = tt
-  hops_rest rest (value none) k = k
-  hops_rest rest (value (some [])) k = k
-  hops_rest rest (value (some (h ∷ hs))) k = go (eqb (last_of h hs).out_hop ring)
+  hops_rest rest (value None) k = k
+  hops_rest rest (value (Some [])) k = k
+  hops_rest rest (value (Some (h ∷ hs))) k = go (eqb (last_of h hs).out_hop ring)
     where
       go : (b : Bool) → Hops (cond b (value (received (h ∷ hs))) rest)
       go true = tt
@@ -91,7 +90,7 @@ module _ (x : Rows) (ring : ℕ) where
 abbrev said : Outcome Receive → Outcome Said
 said o = bind o (λ v. value (said_of v))
 
-alone_plan_lem : (o : Outcome Receive) → Hops o → bind (said o) (λ v. value (alone_plan v)) ≡ planned (bind o (λ v. value (ring_tunnel none v)))
+alone_plan_lem : (o : Outcome Receive) → Hops o → bind (said o) (λ v. value (alone_plan v)) ≡ planned (bind o (λ v. value (ring_tunnel None v)))
 unfolding bind said_of alone_plan one_plan ring_tunnel tx_path with_paths plan_if leaving_by start_of
 alone_plan_lem (refused n vs) k = refl
 alone_plan_lem (value (received [])) k = absurd k
@@ -100,57 +99,57 @@ alone_plan_lem (value nothing) k = refl
 alone_plan_lem (value lost) k = refl
 
 with_plan_lem : (p a ring w : ℕ) (ts : List EntryRow) (o : Outcome Receive) → 0 < length ts → start_of ts ≡ at p a ring → w ≡ 1 + 2 * length ts → Hops o
-    → bind (said o) (λ v. value (with_plan (at p a ring) (1 + w) v)) ≡ planned (bind o (λ v. value (ring_tunnel (some ts) v)))
+    → bind (said o) (λ v. value (with_plan (at p a ring) (1 + w) v)) ≡ planned (bind o (λ v. value (ring_tunnel (Some ts) v)))
 unfolding bind said_of with_plan one_plan ring_tunnel tx_path with_paths plan_if leaving_by start_of tunnel_of leaves_by at
 with_plan_lem p a ring w ts (refused n vs) l e f k = refl
 with_plan_lem p a ring w ts (value (received [])) l e f k = absurd k
 with_plan_lem p a ring w ts (value (received (h ∷ hs))) l e f k = sym (two_paths tunnel_type.Dma 7 8 p a ring w (stand_of h) ts (h ∷ hs) l e refl f)
-with_plan_lem p a ring w ts (value nothing) l e f k = ap (λ c. value (some (plan tunnel_type.Dma false (1 + c) (from (at p a ring) 7 ∷ [])))) f ∙ sym (one_plan_lem tunnel_type.Dma 7 (at p a ring) ts e)
+with_plan_lem p a ring w ts (value nothing) l e f k = ap (λ c. value (Some (plan tunnel_type.Dma false (1 + c) (from (at p a ring) 7 ∷ [])))) f ∙ sym (one_plan_lem tunnel_type.Dma 7 (at p a ring) ts e)
 with_plan_lem p a ring w ts (value lost) l e f k = refl
 
 -- ---- what is answered of the search
 
-module _ (en ad ro ma : List ℕ) (ring : ℕ) (r : Received) (f : Receives en ad ro ma ring r) where
-  pub ring_refused : (g : Said → Option Plan) (z : Refusal) → r ≡ found.Refused z → Draws en ad ro ma 0 (λ x. ring_by x ring g) (answer.Refused z)
+module _ (en ad ro ma : List ℕ) (ring : ℕ) (r : Result Received Refusal) (f : Receives en ad ro ma ring r) where
+  pub ring_refused : (g : Said → Option Plan) (z : Refusal) → r ≡ Err z → Draws en ad ro ma 0 (λ x. ring_by x ring g) (Err z)
   unfolding ring_by received_outcome
   ring_refused g z e = draws_refused en ad ro ma 0 _ z (λ t l. sym (refused_bind z (λ v. value (g v))) ∙ ap (λ o. bind o (λ v. value (g v))) (sym (ap (received_outcome ring) e) ∙ f.answers t))
 
   -- what is said of it is put in
-  ring_says : (g : Said → Option Plan) (v : Said) (y : Planned) → received_outcome ring r ≡ value v → (Sized en ro → planned_outcome y ≡ value (g v)) → words_by y ≤ 1048576 → paths_by y ≤ 3 → Draws en ad ro ma 0 (λ x. ring_by x ring g) y
+  ring_says : (g : Said → Option Plan) (v : Said) (y : Result (Option Planned) Refusal) → received_outcome ring r ≡ value v → (Sized en ro → planned_outcome y ≡ value (g v)) → words_by y ≤ 1048576 → paths_by y ≤ 3 → Draws en ad ro ma 0 (λ x. ring_by x ring g) y
   unfolding ring_by bind
   ring_says g v y e h k j = record { answers = λ z t l. h z ∙ ap (λ o. bind o (λ v. value (g v))) (sym e ∙ f.answers t); few = k; three = j }
 
-  pub alone_lost : r ≡ found.Lost → Draws en ad ro ma 0 (λ x. ring_by x ring alone_plan) answer.Absent
+  pub alone_lost : r ≡ Ok found.Lost → Draws en ad ro ma 0 (λ x. ring_by x ring alone_plan) (Ok None)
   unfolding received_outcome planned_outcome words_by paths_by alone_plan
-  alone_lost e = ring_says alone_plan dropped answer.Absent (ap (received_outcome ring) e) (λ z. refl) (omega arith) (omega arith)
+  alone_lost e = ring_says alone_plan dropped (Ok None) (ap (received_outcome ring) e) (λ z. refl) (omega arith) (omega arith)
 
-  pub alone_nothing : r ≡ found.Nothing → Draws en ad ro ma 0 (λ x. ring_by x ring alone_plan) answer.Absent
+  pub alone_nothing : r ≡ Ok found.Nothing → Draws en ad ro ma 0 (λ x. ring_by x ring alone_plan) (Ok None)
   unfolding received_outcome planned_outcome words_by paths_by alone_plan
-  alone_nothing e = ring_says alone_plan said-none answer.Absent (ap (received_outcome ring) e) (λ z. refl) (omega arith) (omega arith)
+  alone_nothing e = ring_says alone_plan said-none (Ok None) (ap (received_outcome ring) e) (λ z. refl) (omega arith) (omega arith)
 
-  few_hops : (q n h k o b : ℕ) → r ≡ found.Path q n h k o b → Sized en ro → k ≤ 4096
+  few_hops : (q n h k o b : ℕ) → r ≡ Ok (found.Path (path_of q n h k o b)) → Sized en ro → k ≤ 4096
   unfolding hops_by
   few_hops q n h k o b e z = let v : k ≤ length en = subst (λ y. hops_by y ≤ length en) e f.few in omega (arith, z.entries)
 
-  pub alone_path : (q n h k o b w : ℕ) (y : Planned) → r ≡ found.Path q n h k o b → Words k w → y ≡ one_path (1 + w) (start_by (at q n h) 8) → Draws en ad ro ma 0 (λ x. ring_by x ring alone_plan) y
+  pub alone_path : (q n h k o b w : ℕ) (y : Planned) → r ≡ Ok (found.Path (path_of q n h k o b)) → Words k w → y ≡ one_path (1 + w) (start_by (at q n h) 8) → Draws en ad ro ma 0 (λ x. ring_by x ring alone_plan) (Ok (Some y))
   unfolding received_outcome planned_outcome words_by paths_by alone_plan one_path one_plan start_by from_by at
-  alone_path q n h k o b w y e (m, g) i = subst (Draws en ad ro ma 0 (λ x. ring_by x ring alone_plan)) (sym i)
-      (ring_says alone_plan _ (one_path (1 + w) (start_by (at q n h) 8)) (ap (received_outcome ring) e)
-      (λ z. ap (λ c. value (some (plan tunnel_type.Dma false (1 + c) (from (at q n h) 8 ∷ [])))) (g (omega (arith, few_hops q n h k o b e z))))
+  alone_path q n h k o b w y e (m, g) i = subst (λ z. Draws en ad ro ma 0 (λ x. ring_by x ring alone_plan) (Ok (Some z))) (sym i)
+      (ring_says alone_plan _ (Ok (Some (one_path (1 + w) (start_by (at q n h) 8)))) (ap (received_outcome ring) e)
+      (λ z. ap (λ c. value (Some (plan tunnel_type.Dma false (1 + c) (from (at q n h) 8 ∷ [])))) (g (omega (arith, few_hops q n h k o b e z))))
       (omega arith) (omega arith))
 
   module _ (p a words : ℕ) (few : words ≤ 131072) where
-    pub with_lost : r ≡ found.Lost → Draws en ad ro ma 0 (λ x. ring_by x ring (with_plan (at p a ring) words)) answer.Absent
+    pub with_lost : r ≡ Ok found.Lost → Draws en ad ro ma 0 (λ x. ring_by x ring (with_plan (at p a ring) words)) (Ok None)
     unfolding received_outcome planned_outcome words_by paths_by with_plan
-    with_lost e = ring_says (with_plan (at p a ring) words) dropped answer.Absent (ap (received_outcome ring) e) (λ z. refl) (omega arith) (omega arith)
+    with_lost e = ring_says (with_plan (at p a ring) words) dropped (Ok None) (ap (received_outcome ring) e) (λ z. refl) (omega arith) (omega arith)
 
-    pub with_nothing : (y : Planned) → r ≡ found.Nothing → y ≡ one_path words (start_by (at p a ring) 7) → Draws en ad ro ma 0 (λ x. ring_by x ring (with_plan (at p a ring) words)) y
+    pub with_nothing : (y : Planned) → r ≡ Ok found.Nothing → y ≡ one_path words (start_by (at p a ring) 7) → Draws en ad ro ma 0 (λ x. ring_by x ring (with_plan (at p a ring) words)) (Ok (Some y))
     unfolding received_outcome planned_outcome words_by paths_by with_plan one_path one_plan start_by from_by at
-    with_nothing y e i = subst (Draws en ad ro ma 0 (λ x. ring_by x ring (with_plan (at p a ring) words))) (sym i)
-        (ring_says (with_plan (at p a ring) words) said-none (one_path words (start_by (at p a ring) 7)) (ap (received_outcome ring) e) (λ z. refl) (omega arith) (omega arith))
+    with_nothing y e i = subst (λ z. Draws en ad ro ma 0 (λ x. ring_by x ring (with_plan (at p a ring) words)) (Ok (Some z))) (sym i)
+        (ring_says (with_plan (at p a ring) words) said-none (Ok (Some (one_path words (start_by (at p a ring) 7)))) (ap (received_outcome ring) e) (λ z. refl) (omega arith) (omega arith))
 
-    pub with_path_lem : (q n h k o b w : ℕ) (c : Bool) (first second third : Start) → r ≡ found.Path q n h k o b → Words k w → c ≡ (eqb o p && eqb b a) → first ≡ start_by (at p a ring) 7 → second ≡ start_by (at q n h) 8
-        → Draws en ad ro ma 0 (λ x. ring_by x ring (with_plan (at p a ring) words)) (answer.Tunnel tunnel_type.Dma c (words + w) 2 first second third)
+    pub with_path_lem : (q n h k o b w : ℕ) (c : Bool) (first second third : Start) → r ≡ Ok (found.Path (path_of q n h k o b)) → Words k w → c ≡ (eqb o p && eqb b a) → first ≡ start_by (at p a ring) 7 → second ≡ start_by (at q n h) 8
+        → Draws en ad ro ma 0 (λ x. ring_by x ring (with_plan (at p a ring) words)) (Ok (Some (planned_as tunnel_type.Dma c (words + w) 2 first second third)))
     unfolding received_outcome planned_outcome words_by paths_by with_plan start_by from_by at
     with_path_lem q n h k o b w c first second third e (m, g) i j v =
         ring_says (with_plan (at p a ring) words) _ _ (ap (received_outcome ring) e)
@@ -159,12 +158,12 @@ module _ (en ad ro ma : List ℕ) (ring : ℕ) (r : Received) (f : Receives en a
 
 -- ---- a ring's tunnel
 
-module _ (en ad ro ma : List ℕ) (p a ring : ℕ) (r : Walked) (f : Tallied en ad ro ma (stood p a ring) r) where
-  pub dma_refused : (z : Refusal) → r ≡ walked.Refused z → Plans en ad ro ma p (λ x. one_dma x p a ring) (answer.Refused z)
+module _ (en ad ro ma : List ℕ) (p a ring : ℕ) (r : Result (Option Walked) Refusal) (f : Tallied en ad ro ma (stood p a ring) r) where
+  pub dma_refused : (z : Refusal) → r ≡ Err z → Plans en ad ro ma p (λ x. one_dma x p a ring) (Err z)
   unfolding one_dma at
   dma_refused z e = plans_refused en ad ro ma p _ z (λ t l. tally_refused en ad ro ma _ r f t l z _ e)
 
-  pub dma_alone : (y : Planned) → r ≡ walked.Absent → Draws en ad ro ma 0 (λ x. ring_by x ring alone_plan) y → Plans en ad ro ma p (λ x. one_dma x p a ring) y
+  pub dma_alone : (y : Result (Option Planned) Refusal) → r ≡ (Ok None) → Draws en ad ro ma 0 (λ x. ring_by x ring alone_plan) y → Plans en ad ro ma p (λ x. one_dma x p a ring) y
   unfolding one_dma at ring_by bind
   dma_alone y e d = record {
     answers = λ v t l.
@@ -175,7 +174,7 @@ module _ (en ad ro ma : List ℕ) (p a ring : ℕ) (r : Walked) (f : Tallied en 
     three = d.three;
   }
 
-  pub dma_with : (n q b h w : ℕ) (y : Planned) → r ≡ walked.Path n q b h → Words n w → Draws en ad ro ma 0 (λ x. ring_by x ring (with_plan (at p a ring) (1 + w))) y → Plans en ad ro ma p (λ x. one_dma x p a ring) y
+  pub dma_with : (n q b h w : ℕ) (y : Result (Option Planned) Refusal) → r ≡ walked_to n q b h → Words n w → Draws en ad ro ma 0 (λ x. ring_by x ring (with_plan (at p a ring) (1 + w))) y → Plans en ad ro ma p (λ x. one_dma x p a ring) y
   unfolding one_dma at ring_by bind
   dma_with n q b h w y e (m, k) d = record {
     answers = λ v t l.
@@ -191,6 +190,6 @@ module _ (en ad ro ma : List ℕ) (p a ring : ℕ) (r : Walked) (f : Tallied en 
 
 -- ---- a plan's bounds, whatever was sought
 
-pub one_bounds : (y : Planned) (w : ℕ) (s : Start) → y ≡ one_path w s → w ≤ 131073 → (words_by y ≤ 1048576) × (paths_by y ≤ 3)
+pub one_bounds : (y : Planned) (w : ℕ) (s : Start) → y ≡ one_path w s → w ≤ 131073 → (words_by (Ok (Some y)) ≤ 1048576) × (paths_by (Ok (Some y)) ≤ 3)
 unfolding one_path words_by paths_by
-one_bounds y w s e l = subst (λ z. (words_by z ≤ 1048576) × (paths_by z ≤ 3)) (sym e) (omega (arith, l), omega arith)
+one_bounds y w s e l = subst (λ z. (words_by (Ok (Some z)) ≤ 1048576) × (paths_by (Ok (Some z)) ≤ 3)) (sym e) (omega (arith, l), omega arith)

@@ -1,10 +1,10 @@
 -- A tunnel by what it takes to write it: where its paths start, and how many words it has. Assumes nothing.
-use Rattle.std.specs.Prelude.{ℕ, ◌≤◌, ◌<◌, ◌≡◌, Bool, List, [], ◌∷◌, map, length, take}
-use Rattle.std.proofs.Math.Option.{Option, none, some}
+use Rattle.std.specs.Prelude.{ℕ, ◌≤◌, ◌<◌, ◌≡◌, Bool, List, [], ◌∷◌, map, length, take, Option, None, Some, Result, Ok, Err}
 use Rattle.refusal.specs.Outcome.{Outcome, value, bind}
 use Rattle.usb4.specs.declared.TunnelType.{TunnelType}
 use Rattle.tables.specs.Rows.{EntryRow, Rows}
-use Rattle.load.specs.Answers.{refused_by}
+use Rattle.refusal.specs.Refusal.{refused_by}
+use Rattle.refusal.specs.declared.Refusal.{Refusal}
 use Rattle.walk.specs.Walking.{Stand}
 use Rattle.walk.specs.Rule.{stand_of}
 use Rattle.walk.specs.Tables.{rows_of, Tabled}
@@ -15,8 +15,7 @@ use Rattle.receive.specs.declared.Received.{Received}
 use Rattle.tunnel.specs.Tunnels.{Path, Tunnel, one_dma}
 use Rattle.tunnel.specs.Words.{closed, tunnel_words}
 use Rattle.tunnel.specs.declared.Start.{Start}
-use Rattle.tunnel.specs.declared.Planned.{Planned}
-use Rattle.tunnel.specs.declared.Planned.TheVariants as planned
+use Rattle.tunnel.specs.declared.Plan.{Plan as Planned}
 
 -- a path's name, and where its first hop stands
 pub record From : Type 0 where
@@ -41,36 +40,40 @@ unfoldable pub plan_of : Tunnel → Plan
 plan_of t = record { type = t.type; closed = closed t; words = length (tunnel_words t); starts = map from_of t.paths }
 
 unfoldable pub plan_if : Option Tunnel → Option Plan
-plan_if none = none
-plan_if (some t) = some (plan_of t)
+plan_if None = None
+plan_if (Some t) = Some (plan_of t)
 
 unfoldable pub from_by : Start → From
 from_by s = record { stand = at s.place s.adapter s.hop; name = s.name }
 
+-- what a call answers of a tunnel
+abbrev pub planned_as : TunnelType → Bool → ℕ → ℕ → Start → Start → Start → Planned
+planned_as t c w n a b d = record { kind = t; closed = c; words = w; paths = n; first = a; second = b; third = d }
+
 -- document 01's number and values for what is answered: the first n of three starts; any past these are free
-unfoldable pub planned_outcome : Planned → Outcome (Option Plan)
-planned_outcome (planned.Tunnel t c w n a b d) = value (some (record { type = t; closed = c; words = w; starts = take n (from_by a ∷ from_by b ∷ from_by d ∷ []) }))
-planned_outcome planned.Absent = value none
-planned_outcome (planned.Refused r) = refused_by r
+unfoldable pub planned_outcome : Result (Option Planned) Refusal → Outcome (Option Plan)
+planned_outcome (Ok (Some p)) = value (Some (record { type = p.kind; closed = p.closed; words = p.words; starts = take p.paths (from_by p.first ∷ from_by p.second ∷ from_by p.third ∷ []) }))
+planned_outcome (Ok None) = value None
+planned_outcome (Err r) = refused_by r
 
-unfoldable pub words_by : Planned → ℕ
-words_by (planned.Tunnel t c w n a b d) = w
-words_by planned.Absent = 0
-words_by (planned.Refused r) = 0
+unfoldable pub words_by : Result (Option Planned) Refusal → ℕ
+words_by (Ok (Some p)) = p.words
+words_by (Ok None) = 0
+words_by (Err r) = 0
 
-unfoldable pub paths_by : Planned → ℕ
-paths_by (planned.Tunnel t c w n a b d) = n
-paths_by planned.Absent = 0
-paths_by (planned.Refused r) = 0
+unfoldable pub paths_by : Result (Option Planned) Refusal → ℕ
+paths_by (Ok (Some p)) = p.paths
+paths_by (Ok None) = 0
+paths_by (Err r) = 0
 
 -- For a place that a key has room for, in tables in order and no larger than a survey's, it is the plan of the tunnel that f says of their rows. Else it is free, but that it has at most three paths and 1,048,576 words.
-pub record Plans (en ad ro ma : List ℕ) (p : ℕ) (f : Rows → Outcome (Option Tunnel)) (r : Planned) : Type 0 where
+pub record Plans (en ad ro ma : List ℕ) (p : ℕ) (f : Rows → Outcome (Option Tunnel)) (r : Result (Option Planned) Refusal) : Type 0 where
   pub answers : Sized en ro → Tabled en ad ro → p < 65536 → planned_outcome r ≡ bind (f (rows_of en ad ro ma)) (λ o. value (plan_if o))
   pub few : words_by r ≤ 1048576
   pub three : paths_by r ≤ 3
 
 -- The plan of a ring's tunnel by what a search for its receive path came to. For anything else that is handed in it is free, but for the same bounds.
-pub record RingPlans (en ad ro ma : List ℕ) (p a ring : ℕ) (received : Received) (r : Planned) : Type 0 where
+pub record RingPlans (en ad ro ma : List ℕ) (p a ring : ℕ) (received : Result Received Refusal) (r : Result (Option Planned) Refusal) : Type 0 where
   pub plans : Receives en ad ro ma ring received → Plans en ad ro ma p (λ x. one_dma x p a ring) r
   pub few : words_by r ≤ 1048576
   pub three : paths_by r ≤ 3

@@ -1,7 +1,7 @@
 -- Document 01, module 7, `Tunnel::discover`, on the rows of a loaded survey. Assumes nothing.
-use Rattle.std.specs.Prelude.{ℕ, zero, suc, ◌+◌, ◌-◌, cond}
-use mathlib.Core.List.{List, [], ◌∷◌, ◌++◌, Option-to_list}
-use Rattle.std.proofs.Math.Option.{Option, none, some}
+use Rattle.std.specs.Option.{option_to_list}
+use Rattle.std.specs.Prelude.{ℕ, zero, suc, ◌+◌, ◌-◌, cond, Option, None, Some}
+use mathlib.Core.List.{List, [], ◌∷◌, ◌++◌}
 use Rattle.refusal.specs.Outcome.{Outcome, value, bind}
 use Rattle.usb4.specs.declared.AdapterType.{AdapterType}
 use Rattle.usb4.specs.declared.AdapterType.TheVariants as type
@@ -34,14 +34,14 @@ leaving h (e ∷ es) = let l = last_of e es in at l.device l.out_adapter h
 
 -- a walk that must give a path: the Rust's `?`
 unfoldable pub or_absent : {A : Type 0} → Option (List EntryRow) → (List EntryRow → Outcome (Option A)) → Outcome (Option A)
-or_absent none f = value none
-or_absent (some hs) f = f hs
+or_absent None f = value None
+or_absent (Some hs) f = f hs
 
 unfoldable pub needed : {A : Type 0} → Rows → Stand → (List EntryRow → Outcome (Option A)) → Outcome (Option A)
 needed x s f = bind (walk_from x s) (λ o. or_absent o f)
 
 unfoldable pub tunnel_of : TunnelType → List Path → Outcome (Option Tunnel)
-tunnel_of t ps = value (some (record { type = t; paths = ps }))
+tunnel_of t ps = value (Some (record { type = t; paths = ps }))
 
 -- USB 3 and PCIe, HopID 8: down from the adapter, then up from where that path leaves
 unfoldable pub down_and_up : Rows → TunnelType → ℕ → ℕ → ℕ → ℕ → Outcome (Option Tunnel)
@@ -54,19 +54,19 @@ display_port x p a =
 
 -- a ring's paths: DMA TX, DMA RX, each if it is there
 unfoldable pub tx_path : Option (List EntryRow) → List Path
-tx_path none = []
-tx_path (some hs) = path 7 hs ∷ []
+tx_path None = []
+tx_path (Some hs) = path 7 hs ∷ []
 
 -- a ring's tunnel has a path
 unfoldable pub with_paths : List Path → Option Tunnel
-with_paths [] = none
-with_paths (p ∷ ps) = some (record { type = tunnel_type.Dma; paths = p ∷ ps })
+with_paths [] = None
+with_paths (p ∷ ps) = Some (record { type = tunnel_type.Dma; paths = p ∷ ps })
 
 -- where a lane adapter is missing the tunnel is dropped, and its DMA TX path with it
 unfoldable pub ring_tunnel : Option (List EntryRow) → Receive → Option Tunnel
 ring_tunnel tx (received hs) = with_paths (tx_path tx ++ (path 8 hs ∷ []))
 ring_tunnel tx nothing = with_paths (tx_path tx)
-ring_tunnel tx lost = none
+ring_tunnel tx lost = None
 
 -- `discover_one_dma`: the ring's DMA TX path is sought first
 unfoldable pub one_dma : Rows → ℕ → ℕ → ℕ → Outcome (Option Tunnel)
@@ -75,36 +75,36 @@ one_dma x p a ring = bind (walk_from x (at p a ring)) (λ tx. bind (receive x ri
 -- k rings from h on
 unfoldable pub rings : Rows → ℕ → ℕ → ℕ → ℕ → Outcome (List Tunnel)
 rings x p a h zero = value []
-rings x p a h (suc k) = bind (one_dma x p a h) (λ t. bind (rings x p a (suc h) k) (λ ts. value (Option-to_list t ++ ts)))
+rings x p a h (suc k) = bind (one_dma x p a h) (λ t. bind (rings x p a (suc h) k) (λ ts. value (option_to_list t ++ ts)))
 
 unfoldable pub or_none : {A B : Type 0} → Option A → (A → Outcome (Option B)) → Outcome (Option B)
-or_none none f = value none
-or_none (some a) f = f a
+or_none None f = value None
+or_none (Some a) f = f a
 
 -- `discover_dma`: the rings of a host interface, its least HopID to its largest, or 6; absent without these
 unfoldable pub dma : Rows → ℕ → AdapterRow → Outcome (Option (List Tunnel))
-dma x p y = or_none (min_hop y.kind) (λ lo. bind y.max_hop (λ m. or_none m (λ hi. bind (rings x p y.number lo (hi + 1 - lo)) (λ ts. value (some ts)))))
+dma x p y = or_none (min_hop y.kind) (λ lo. bind y.max_hop (λ m. or_none m (λ hi. bind (rings x p y.number lo (hi + 1 - lo)) (λ ts. value (Some ts)))))
 
 -- a list of one tunnel, or absent
 unfoldable pub alone : Option Tunnel → Outcome (Option (List Tunnel))
-alone none = value none
-alone (some t) = value (some (t ∷ []))
+alone None = value None
+alone (Some t) = value (Some (t ∷ []))
 
 -- by the adapter's kind
 unfoldable pub of_kind : Rows → ℕ → AdapterRow → AdapterType → Outcome (Option (List Tunnel))
-of_kind x p y type.Unknown = value none
-of_kind x p y type.Inactive = value none
-of_kind x p y type.Lane = value none
+of_kind x p y type.Unknown = value None
+of_kind x p y type.Inactive = value None
+of_kind x p y type.Lane = value None
 of_kind x p y type.HostInterface = dma x p y
 of_kind x p y type.DisplayPortIn = bind (display_port x p y.number) alone
-of_kind x p y type.DisplayPortOut = value none
+of_kind x p y type.DisplayPortOut = value None
 of_kind x p y type.PcieDown = bind (down_and_up x tunnel_type.Pcie 5 6 p y.number) alone
-of_kind x p y type.PcieUp = value none
+of_kind x p y type.PcieUp = value None
 of_kind x p y type.Usb3Down = bind (down_and_up x tunnel_type.Usb3 0 1 p y.number) alone
-of_kind x p y type.Usb3Up = value none
-of_kind x p y type.Usb3GenTDown = value none
-of_kind x p y type.Usb3GenTUp = value none
+of_kind x p y type.Usb3Up = value None
+of_kind x p y type.Usb3GenTDown = value None
+of_kind x p y type.Usb3GenTUp = value None
 
 -- `discover`: a disabled adapter or one of another kind has none
 unfoldable pub discover : Rows → ℕ → AdapterRow → Outcome (Option (List Tunnel))
-discover x p y = cond (is_enabled y.kind y.state) (of_kind x p y y.kind) (value none)
+discover x p y = cond (is_enabled y.kind y.state) (of_kind x p y y.kind) (value None)

@@ -1,6 +1,5 @@
 -- For the contracts of private functions only. No promise to a caller rests on these. Assumes nothing.
-use Rattle.std.specs.Prelude.{ℕ, ◌+◌, ◌*◌, ◌≤◌, ◌<◌, ◌≡◌, Bool, false, ◌&&◌, List, [], ◌∷◌, eqb, length, take}
-use Rattle.std.proofs.Math.Option.{Option, none, some}
+use Rattle.std.specs.Prelude.{ℕ, ◌+◌, ◌*◌, ◌≤◌, ◌<◌, ◌≡◌, Bool, false, ◌&&◌, List, [], ◌∷◌, eqb, length, take, Option, None, Some, Result}
 use Rattle.refusal.specs.Outcome.{Outcome, value, bind}
 use Rattle.usb4.specs.declared.TunnelType.{TunnelType}
 use Rattle.usb4.specs.declared.TunnelType.TheVariants as tunnel_type
@@ -11,13 +10,13 @@ use Rattle.path.specs.Put.{Sized}
 use Rattle.receive.specs.Receive.{at, receive}
 use Rattle.receive.specs.Tables.{Said, Said.path, Said.none as nothing, Said.dropped, said_of}
 use Rattle.tunnel.specs.Tunnels.{leaving, needed}
-use Rattle.tunnel.specs.Plans.{Plan, from_by, planned_outcome, words_by, paths_by}
+use Rattle.tunnel.specs.Plans.{Plan, from_by, planned_as, planned_outcome, words_by, paths_by}
 use Rattle.tunnel.specs.declared.Start.{Start}
-use Rattle.tunnel.specs.declared.Planned.{Planned}
-use Rattle.tunnel.specs.declared.Planned.TheVariants as planned
+use Rattle.tunnel.specs.declared.Plan.{Plan as Planned}
+use Rattle.refusal.specs.declared.Refusal.{Refusal}
 
 -- as `Plans`, where f says the plan itself
-pub record Draws (en ad ro ma : List ℕ) (p : ℕ) (f : Rows → Outcome (Option Plan)) (r : Planned) : Type 0 where
+pub record Draws (en ad ro ma : List ℕ) (p : ℕ) (f : Rows → Outcome (Option Plan)) (r : Result (Option Planned) Refusal) : Type 0 where
   pub answers : Sized en ro → Tabled en ad ro → p < 65536 → planned_outcome r ≡ f (rows_of en ad ro ma)
   pub few : words_by r ≤ 1048576
   pub three : paths_by r ≤ 3
@@ -35,7 +34,7 @@ unfoldable pub last_plan : TunnelType → ℕ → ℕ → Start → Start → St
 last_plan t w n a b d hs = record { type = t; closed = leaves_by hs a.place a.adapter; words = w + (1 + 2 * length hs); starts = take n (from_by a ∷ from_by b ∷ from_by d ∷ []) }
 
 unfoldable pub finished : Rows → TunnelType → ℕ → ℕ → Start → Start → Start → Outcome (Option Plan)
-finished x t w n a b d = needed x (at d.place d.adapter d.hop) (λ hs. value (some (last_plan t w n a b d hs)))
+finished x t w n a b d = needed x (at d.place d.adapter d.hop) (λ hs. value (Some (last_plan t w n a b d hs)))
 
 -- AUX TX and AUX RX after w words
 unfoldable pub auxiliary : Rows → ℕ → ℕ → ℕ → Outcome (Option Plan)
@@ -44,26 +43,26 @@ auxiliary x p a w =
 
 -- a ring's tunnel of one path
 unfoldable pub one_path : ℕ → Start → Planned
-one_path w s = planned.Tunnel tunnel_type.Dma false w 1 s s s
+one_path w s = planned_as tunnel_type.Dma false w 1 s s s
 
 unfoldable pub one_plan : ℕ → Stand → ℕ → Plan
 one_plan w s n = record { type = tunnel_type.Dma; closed = false; words = w; starts = record { stand = s; name = n } ∷ [] }
 
 -- by what the search for its receive path says: a ring without a DMA TX path, and one with it, from s, and w words before the other
 unfoldable pub alone_plan : Said → Option Plan
-alone_plan (path u l) = some (one_plan (1 + (1 + 2 * l.hops)) u 8)
-alone_plan nothing = none
-alone_plan dropped = none
+alone_plan (path u l) = Some (one_plan (1 + (1 + 2 * l.hops)) u 8)
+alone_plan nothing = None
+alone_plan dropped = None
 
 unfoldable pub with_plan : Stand → ℕ → Said → Option Plan
-with_plan s w (path u l) = some (record {
+with_plan s w (path u l) = Some (record {
   type = tunnel_type.Dma;
   closed = eqb l.place s.place && eqb l.adapter s.adapter;
   words = w + (1 + 2 * l.hops);
   starts = record { stand = s; name = 7 } ∷ record { stand = u; name = 8 } ∷ [];
 })
-with_plan s w nothing = some (one_plan w s 7)
-with_plan s w dropped = none
+with_plan s w nothing = Some (one_plan w s 7)
+with_plan s w dropped = None
 
 unfoldable pub ring_by : Rows → ℕ → (Said → Option Plan) → Outcome (Option Plan)
 ring_by x ring g = bind (bind (receive x ring) (λ v. value (said_of v))) (λ v. value (g v))

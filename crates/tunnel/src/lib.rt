@@ -8,10 +8,9 @@ ghost use Rattle.tunnel.specs.Tunnels.{down_and_up, display_port};
 ghost use Rattle.tunnel.specs.Plans.{words_by, paths_by, Plans, RingPlans};
 ghost use Rattle.tunnel.specs.Work.{Draws, finished, auxiliary, alone_plan, with_plan, ring_by, start_by, one_path};
 
-use load::Refusal;
 use receive::Received;
+use refusal::Refusal;
 use usb4::TunnelType;
-use walk::Walked;
 
 // Where a path starts, and its name.
 #[derive(Clone, Copy)]
@@ -22,20 +21,16 @@ pub struct Start {
     pub name: u8,
 }
 
-// A tunnel's type, closed mark, number of words and of paths, and where these start; none; or what refuses it.
+// A tunnel's type, closed mark, number of words and of paths, and where these start.
 #[derive(Clone, Copy)]
-pub enum Planned {
-    Tunnel {
-        kind: TunnelType,
-        closed: bool,
-        words: usize,
-        paths: u8,
-        first: Start,
-        second: Start,
-        third: Start,
-    },
-    Absent,
-    Refused(Refusal),
+pub struct Plan {
+    pub kind: TunnelType,
+    pub closed: bool,
+    pub words: usize,
+    pub paths: u8,
+    pub first: Start,
+    pub second: Start,
+    pub third: Start,
 }
 
 // The Rust's `PCIE_HOPID` is the same.
@@ -97,31 +92,26 @@ fn finish(
     first: Start,
     second: Start,
     last: Start,
-) -> Planned
+) -> Result<Option<Plan>, Refusal>
     requires { (words ≤ 262143) × (paths ≤ 3) }
     ensures { Draws entries.now adapters.now routes.now marks.now last.place (λ x. finished x kind words paths first second last) result }
 {
     let place = last.place;
     let adapter = last.adapter;
     let hop = last.hop;
-    match walk::tally(entries, adapters, routes, marks, place, adapter, hop) {
-        Walked::Refused(refusal) => Planned::Refused(refusal),
-        Walked::Absent => Planned::Absent,
-        Walked::Path {
-            hops,
-            place: p,
-            adapter: a,
-            hop: _,
-        } => Planned::Tunnel {
-            kind,
-            closed: same(p, a, first.place, first.adapter),
-            words: words + path_words(hops),
-            paths,
-            first,
-            second,
-            third: last,
-        },
-    }
+    let walked = walk::tally(entries, adapters, routes, marks, place, adapter, hop)?;
+    let Some(w) = walked else {
+        return Ok(None);
+    };
+    Ok(Some(Plan {
+        kind,
+        closed: same(w.place, w.adapter, first.place, first.adapter),
+        words: words + path_words(w.hops),
+        paths,
+        first,
+        second,
+        third: last,
+    }))
 }
 
 // USB 3 and PCIe: down from the adapter, then up from where that path leaves.
@@ -135,30 +125,25 @@ pub fn down_and_up(
     kind: TunnelType,
     down: u8,
     up: u8,
-) -> Planned
+) -> Result<Option<Plan>, Refusal>
     ensures { Plans entries.now adapters.now routes.now marks.now place (λ x. down_and_up x kind down up place adapter) result }
 {
-    match walk::tally(entries, adapters, routes, marks, place, adapter, USB3_HOPID) {
-        Walked::Refused(refusal) => Planned::Refused(refusal),
-        Walked::Absent => Planned::Absent,
-        Walked::Path {
-            hops,
-            place: p,
-            adapter: a,
-            hop: _,
-        } => finish(
-            entries,
-            adapters,
-            routes,
-            marks,
-            kind,
-            1 + path_words(hops),
-            2,
-            starting(place, adapter, USB3_HOPID, down),
-            starting(p, a, USB3_HOPID, up),
-            starting(p, a, USB3_HOPID, up),
-        ),
-    }
+    let walked = walk::tally(entries, adapters, routes, marks, place, adapter, USB3_HOPID)?;
+    let Some(w) = walked else {
+        return Ok(None);
+    };
+    finish(
+        entries,
+        adapters,
+        routes,
+        marks,
+        kind,
+        1 + path_words(w.hops),
+        2,
+        starting(place, adapter, USB3_HOPID, down),
+        starting(w.place, w.adapter, USB3_HOPID, up),
+        starting(w.place, w.adapter, USB3_HOPID, up),
+    )
 }
 
 // AUX TX and AUX RX, where a tunnel's head and its Video path have so many words.
@@ -170,32 +155,27 @@ fn aux(
     place: usize,
     adapter: u8,
     words: usize,
-) -> Planned
+) -> Result<Option<Plan>, Refusal>
     requires { words ≤ 131072 }
     ensures { Draws entries.now adapters.now routes.now marks.now place (λ x. auxiliary x place adapter words) result }
 {
     let tx = DP_AUX_TX_HOPID;
-    match walk::tally(entries, adapters, routes, marks, place, adapter, tx) {
-        Walked::Refused(refusal) => Planned::Refused(refusal),
-        Walked::Absent => Planned::Absent,
-        Walked::Path {
-            hops,
-            place: p,
-            adapter: a,
-            hop: _,
-        } => finish(
-            entries,
-            adapters,
-            routes,
-            marks,
-            TunnelType::DisplayPort,
-            words + path_words(hops),
-            3,
-            starting(place, adapter, DP_VIDEO_HOPID, VIDEO),
-            starting(place, adapter, DP_AUX_TX_HOPID, AUX_TX),
-            starting(p, a, DP_AUX_RX_HOPID, AUX_RX),
-        ),
-    }
+    let walked = walk::tally(entries, adapters, routes, marks, place, adapter, tx)?;
+    let Some(w) = walked else {
+        return Ok(None);
+    };
+    finish(
+        entries,
+        adapters,
+        routes,
+        marks,
+        TunnelType::DisplayPort,
+        words + path_words(w.hops),
+        3,
+        starting(place, adapter, DP_VIDEO_HOPID, VIDEO),
+        starting(place, adapter, DP_AUX_TX_HOPID, AUX_TX),
+        starting(w.place, w.adapter, DP_AUX_RX_HOPID, AUX_RX),
+    )
 }
 
 // DisplayPort: Video, AUX TX, then AUX RX from where AUX TX leaves.
@@ -206,35 +186,30 @@ pub fn display_port(
     marks: &[u64],
     place: usize,
     adapter: u8,
-) -> Planned
+) -> Result<Option<Plan>, Refusal>
     ensures { Plans entries.now adapters.now routes.now marks.now place (λ x. display_port x place adapter) result }
 {
     let video = DP_VIDEO_HOPID;
-    match walk::tally(entries, adapters, routes, marks, place, adapter, video) {
-        Walked::Refused(refusal) => Planned::Refused(refusal),
-        Walked::Absent => Planned::Absent,
-        Walked::Path {
-            hops,
-            place: _,
-            adapter: _,
-            hop: _,
-        } => aux(
-            entries,
-            adapters,
-            routes,
-            marks,
-            place,
-            adapter,
-            1 + path_words(hops),
-        ),
-    }
+    let walked = walk::tally(entries, adapters, routes, marks, place, adapter, video)?;
+    let Some(w) = walked else {
+        return Ok(None);
+    };
+    aux(
+        entries,
+        adapters,
+        routes,
+        marks,
+        place,
+        adapter,
+        1 + path_words(w.hops),
+    )
 }
 
 // A ring's tunnel of one path.
-fn one_path(words: usize, place: usize, adapter: u8, hop: u16, name: u8) -> Planned
+fn one_path(words: usize, place: usize, adapter: u8, hop: u16, name: u8) -> Plan
     ensures { result ≡ one_path words (start_by (at place adapter hop) name) }
 {
-    Planned::Tunnel {
+    Plan {
         kind: TunnelType::Dma,
         closed: false,
         words,
@@ -246,51 +221,46 @@ fn one_path(words: usize, place: usize, adapter: u8, hop: u16, name: u8) -> Plan
 }
 
 // A ring's tunnel without a DMA TX path, by what the search for its receive path came to.
-fn receive_alone(received: Received) -> Planned
+fn receive_alone(received: Result<Received, Refusal>) -> Result<Option<Plan>, Refusal>
     ensures { ((en ad ro ma : List ℕ) (ring : ℕ) → Receives en ad ro ma ring received → Draws en ad ro ma 0 (λ x. ring_by x ring alone_plan) result) × (words_by result ≤ 1048576) × (paths_by result ≤ 3) }
 {
-    match received {
-        Received::Refused(refusal) => Planned::Refused(refusal),
-        Received::Lost => Planned::Absent,
-        Received::Nothing => Planned::Absent,
-        Received::Path {
-            place,
-            adapter,
-            hop,
-            hops,
-            out_place: _,
-            out_adapter: _,
-        } => one_path(1 + path_words(hops), place, adapter, hop, DMA_RX),
+    let found = received?;
+    match found {
+        Received::Lost => Ok(None),
+        Received::Nothing => Ok(None),
+        Received::Path(p) => {
+            let plan = one_path(1 + path_words(p.hops), p.place, p.adapter, p.hop, DMA_RX);
+            Ok(Some(plan))
+        }
     }
 }
 
 // A ring's tunnel whose head and DMA TX path have so many words.
-fn receive_with(place: usize, adapter: u8, ring: u16, words: usize, received: Received) -> Planned
+fn receive_with(
+    place: usize,
+    adapter: u8,
+    ring: u16,
+    words: usize,
+    received: Result<Received, Refusal>,
+) -> Result<Option<Plan>, Refusal>
     requires { words ≤ 131072 }
     ensures { ((en ad ro ma : List ℕ) → Receives en ad ro ma ring received → Draws en ad ro ma 0 (λ x. ring_by x ring (with_plan (at place adapter ring) words)) result) × (words_by result ≤ 1048576) × (paths_by result ≤ 3) }
 {
-    match received {
-        Received::Refused(refusal) => Planned::Refused(refusal),
-        Received::Lost => Planned::Absent, // and its DMA TX path with it
-        Received::Nothing => one_path(words, place, adapter, ring, DMA_TX),
-        Received::Path {
-            place: p,
-            adapter: a,
-            hop,
-            hops,
-            out_place,
-            out_adapter,
-        } => {
-            let all = words + path_words(hops);
-            Planned::Tunnel {
+    let found = received?;
+    match found {
+        Received::Lost => Ok(None), // and its DMA TX path with it
+        Received::Nothing => Ok(Some(one_path(words, place, adapter, ring, DMA_TX))),
+        Received::Path(p) => {
+            let all = words + path_words(p.hops);
+            Ok(Some(Plan {
                 kind: TunnelType::Dma,
-                closed: same(out_place, out_adapter, place, adapter),
+                closed: same(p.out_place, p.out_adapter, place, adapter),
                 words: all,
                 paths: 2,
                 first: starting(place, adapter, ring, DMA_TX),
-                second: starting(p, a, hop, DMA_RX),
-                third: starting(p, a, hop, DMA_RX),
-            }
+                second: starting(p.place, p.adapter, p.hop, DMA_RX),
+                third: starting(p.place, p.adapter, p.hop, DMA_RX),
+            }))
         }
     }
 }
@@ -304,18 +274,13 @@ pub fn one_dma(
     place: usize,
     adapter: u8,
     ring: u16,
-    received: Received,
-) -> Planned
+    received: Result<Received, Refusal>,
+) -> Result<Option<Plan>, Refusal>
     ensures { RingPlans entries.now adapters.now routes.now marks.now place adapter ring received result }
 {
-    match walk::tally(entries, adapters, routes, marks, place, adapter, ring) {
-        Walked::Refused(refusal) => Planned::Refused(refusal),
-        Walked::Absent => receive_alone(received),
-        Walked::Path {
-            hops,
-            place: _,
-            adapter: _,
-            hop: _,
-        } => receive_with(place, adapter, ring, 1 + path_words(hops), received),
-    }
+    let walked = walk::tally(entries, adapters, routes, marks, place, adapter, ring)?;
+    let Some(w) = walked else {
+        return receive_alone(received);
+    };
+    receive_with(place, adapter, ring, 1 + path_words(w.hops), received)
 }

@@ -1,15 +1,12 @@
 // Reads the text of a survey from standard input and prints its tunnels, by our descriptions; or only `refused N`.
 #![tactic(auto)]
 
-ghost use Rattle.std.specs.Prelude.{◌<◌, ◌≤◌, ◌≡◌, length, take, IfOk};
-ghost use Rattle.std.specs.Io.KnownBytes.{Consumes, IsAtEnd};
+ghost use Rattle.std.specs.Prelude.{◌≤◌, ◌≡◌, length};
 ghost use Rattle.program.specs.Opened.{UsedBy};
 
-use printed::Printed;
-use program::{OpenAnswer, Opened};
-use report::Page;
+use load::Counts;
+use program::Opened;
 use std::io;
-use std::io::Read;
 
 // One byte more than a text may have, so that a longer one is seen. The contract says the length alone, which lending it as a slice needs.
 fn text_room() -> [u8; 65537]
@@ -34,7 +31,7 @@ fn small_room() -> [u8; 8192]
 
 fn write_refused(rt: &impl Print, number: u8) -> io::Result<()> {
     let mut line = [0u8; 16];
-    if let Printed::Bytes(n) = summary::refused(number, &mut line) {
+    if let Ok(n) = summary::refused(number, &mut line) {
         rt.write_all(&line[..n])?;
     }
     Ok(())
@@ -42,7 +39,7 @@ fn write_refused(rt: &impl Print, number: u8) -> io::Result<()> {
 
 fn write_total(rt: &impl Print, tunnels: usize) -> io::Result<()> {
     let mut line = [0u8; 32];
-    if let Printed::Bytes(n) = summary::total(tunnels, &mut line) {
+    if let Ok(n) = summary::total(tunnels, &mut line) {
         rt.write_all(&line[..n])?;
     }
     Ok(())
@@ -58,7 +55,7 @@ fn write_long_page(
     index: usize,
 ) -> io::Result<()> {
     let mut buffer = page_room();
-    if let Page::Bytes(n) = report::put_page(entries, adapters, routes, marks, index, &mut buffer) {
+    if let Ok(Ok(n)) = report::put_page(entries, adapters, routes, marks, index, &mut buffer) {
         rt.write_all(&buffer[..n])?;
     }
     Ok(())
@@ -75,12 +72,12 @@ fn write_page(
     buffer: &mut [u8],
 ) -> io::Result<bool> {
     match report::put_page(entries, adapters, routes, marks, index, buffer) {
-        Page::Bytes(n) => {
+        Ok(Ok(n)) => {
             rt.write_all(&buffer[..n])?;
             Ok(true)
         }
-        Page::Short(_) => Ok(false),
-        Page::Refused(_) => Ok(true),
+        Ok(Err(_)) => Ok(false),
+        Err(_) => Ok(true),
     }
 }
 
@@ -122,21 +119,19 @@ fn write_tables(
     table: &[u64],
     routes: &[u64],
     marks: &[u64],
-    entries: usize,
-    adapters: usize,
-    devices: usize,
+    counts: Counts,
 ) -> io::Result<()>
-    requires { (entries ≤ length paths.now) × (adapters ≤ length table.now) × (devices ≤ length routes.now) × (devices ≤ length marks.now) }
+    requires { (counts.entries ≤ length paths.now) × (counts.adapters ≤ length table.now) × (counts.devices ≤ length routes.now) × (counts.devices ≤ length marks.now) }
 {
     let mut buffer = small_room();
     write_pages(
         rt,
-        &paths[..entries],
-        &table[..adapters],
-        &routes[..devices],
-        &marks[..devices],
+        &paths[..counts.entries],
+        &table[..counts.adapters],
+        &routes[..counts.devices],
+        &marks[..counts.devices],
         0,
-        adapters,
+        counts.adapters,
         &mut buffer,
     )
 }
@@ -151,19 +146,14 @@ fn write_opened(rt: &impl Print, opened: Opened) -> io::Result<()>
     let routes = opened.routes;
     let marks = opened.marks;
     match answer {
-        OpenAnswer::Refused(numbers) => write_refused(rt, numbers.number),
-        OpenAnswer::Tables {
-            entries,
-            adapters,
-            devices,
-            tunnels,
-        } => {
-            write_total(rt, tunnels)?;
+        Err(refusal) => write_refused(rt, refusals::numbers_of(refusal).number),
+        Ok(tried) => {
+            write_total(rt, tried.tunnels)?;
             let p = &paths;
             let t = &table;
             let r = &routes;
             let m = &marks;
-            write_tables(rt, p, t, r, m, entries, adapters, devices)
+            write_tables(rt, p, t, r, m, tried.counts)
         }
     }
 }
@@ -174,25 +164,8 @@ fn write_text(rt: &impl Print, text: &[u8]) -> io::Result<()> {
     write_opened(rt, opened)
 }
 
-// Reads until `text` is full or the input ends, and says how many bytes it put at the start of `text`.
-fn read_full<R: Read>(from: &mut R, text: &mut [u8]) -> io::Result<usize>
-    ensures within { IfOk result (λ n. n ≤ length text.new) }
-    ensures bytes { IfOk result (λ n. Consumes (R.remaining from.old) (R.remaining from.new) (take n text.new)) }
-    ensures end { IfOk result (λ n. n < length text.new → IsAtEnd (R.remaining from.new)) }
-{
-    let mut n = 0;
-    while n < text.len() {
-        let more = from.read(&mut text[n..])?;
-        if more == 0 {
-            return Ok(n);
-        }
-        n += more;
-    }
-    Ok(n)
-}
-
 fn main(rt: HostRuntime) -> io::Result<()> {
     let mut text = text_room();
-    let n = read_full(&mut rt.stdin(), &mut text)?;
+    let n = input::read_full(&mut rt.stdin(), &mut text)?;
     write_text(&rt, &text[..n])
 }

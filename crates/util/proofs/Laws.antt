@@ -1,4 +1,5 @@
 -- Laws on numbers: what is left to read after some digits, over any base and largest value. Assumes nothing.
+use Rattle.std.specs.Prelude.{None, Option, Some}
 use Prim.Native.Nat.{ℕ, zero, suc, ◌+◌, ◌-◌, ◌*◌, ◌/◌, ◌%◌, ◌^◌, ◌<◌, ◌≤◌}
 use native.Mathlib.Omega.{arith}
 use native.Mathlib.Nat.{zero-add, suc-add, le-mul_of_pos_right, mul-le-mul_left, le-div_iff_mul-le, div-lt_iff_lt-mul, mod-one, zero-mod, div-eq_of_lt, lt_of_lt_of_le}
@@ -13,16 +14,14 @@ use lib.Seq.{drop-cons}
 use borrow.Author.Tests.{le-ltb, lt-ltb, le-leb, lt-leb, leb-true}
 use Rattle.util.specs.Bits.{bits_of}
 use Rattle.util.specs.Number.{digit_of, after_prefix, after_plus, value_of, are_digits, number_of, hex_number, decimal_number}
-use Rattle.util.specs.declared.Number.{Number}
-use Rattle.util.specs.declared.Number.TheVariants.{Value, None}
 
 pub and_false : (b : Bool) → b && false ≡ false
 and_false true = refl
 and_false false = refl
 
 -- what reading gives with v so far and s left
-unfoldable pub rest : ℕ → ℕ → ℕ → List ℕ → Number
-rest base max v s = cond (are_digits base s && leb (value_of base v s) max) (Value (value_of base v s)) None
+unfoldable pub rest : ℕ → ℕ → ℕ → List ℕ → Option ℕ
+rest base max v s = cond (are_digits base s && leb (value_of base v s) max) (Some (value_of base v s)) None
 
 module _ (base : ℕ) (pos : 0 < base) where
   value_grows : (v : ℕ) (s : List ℕ) → v ≤ value_of base v s
@@ -51,7 +50,7 @@ module _ (base : ℕ) (pos : 0 < base) where
     pub rest_over : i < length s → digit_of (get_or s i 0) < base → max < v * base + digit_of (get_or s i 0) → rest base max v (drop i s) ≡ None
     rest_over h d o = rest_step h d ∙ rest_past max _ _ o
 
-    pub rest_end : length s ≤ i → v ≤ max → rest base max v (drop i s) ≡ Value v
+    pub rest_end : length s ≤ i → v ≤ max → rest base max v (drop i s) ≡ Some v
     unfolding rest are_digits value_of
     rest_end h o = rw (drop_of_length-le s h) (simp (le-leb _ _ o))
 
@@ -109,19 +108,19 @@ and_right : (a b : Bool) → a && b ≡ true → b ≡ true
 and_right true b e = e
 and_right false b e = absurd (false≢true e)
 
-number_le : (base max : ℕ) (s : List ℕ) (v : ℕ) → number_of base max s ≡ Value v → v ≤ max
+number_le : (base max : ℕ) (s : List ℕ) (v : ℕ) → number_of base max s ≡ Some v → v ≤ max
 unfolding number_of
 number_le base max s v = step (ltb 0 (length s) && are_digits base s && leb (value_of base 0 s) max) refl
   where
-    step : (t : Bool) → ltb 0 (length s) && are_digits base s && leb (value_of base 0 s) max ≡ t → cond t (Value (value_of base 0 s)) None ≡ Value v → v ≤ max
+    step : (t : Bool) → ltb 0 (length s) && are_digits base s && leb (value_of base 0 s) max ≡ t → cond t (Some (value_of base 0 s)) None ≡ Some v → v ≤ max
     step true h e = let q : value_of base 0 s ≡ v = cc in
         omega (arith, leb-true (value_of base 0 s) max (and_right (ltb 0 (length s) && are_digits base s) _ h))
     step false h e = absurd (let z : ◌≡◌ {A = ℕ} 0 1 = cc in omega arith)
 
-pub hex_le : (max : ℕ) (s : List ℕ) (v : ℕ) → hex_number max s ≡ Value v → v ≤ max
+pub hex_le : (max : ℕ) (s : List ℕ) (v : ℕ) → hex_number max s ≡ Some v → v ≤ max
 unfolding hex_number
 hex_le max s v = number_le 16 max (after_plus (after_prefix s)) v
 
-pub decimal_le : (max : ℕ) (s : List ℕ) (v : ℕ) → decimal_number max s ≡ Value v → v ≤ max
+pub decimal_le : (max : ℕ) (s : List ℕ) (v : ℕ) → decimal_number max s ≡ Some v → v ≤ max
 unfolding decimal_number
 decimal_le max s v = number_le 10 max (after_plus s) v

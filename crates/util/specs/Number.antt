@@ -1,7 +1,5 @@
 -- Document 01, module 1: numbers as dumps and markers write them. A width enters as its largest value. Assumes nothing.
-use Rattle.std.specs.Prelude.{ℕ, ◌+◌, ◌*◌, ◌-◌, Bool, true, cond, ◌&&◌, List, [], ◌∷◌, leb, ltb, eqb, length, get_or, drop}
-use Rattle.util.specs.declared.Number.{Number}
-use Rattle.util.specs.declared.Number.TheVariants.{Value, None}
+use Rattle.std.specs.Prelude.{ℕ, ◌+◌, ◌*◌, ◌-◌, Bool, true, cond, ◌&&◌, List, [], ◌∷◌, leb, ltb, eqb, length, get_or, drop, None, Option, Some}
 
 -- `0` to `9`, `A` to `F`, `a` to `f`; 16 for any other byte
 unfoldable pub digit_of : ℕ → ℕ
@@ -31,11 +29,11 @@ are_digits base [] = true
 are_digits base (b ∷ s) = ltb (digit_of b) base && are_digits base s
 
 -- the digits' value, where there is a digit, all are digits of the base, and the value is at most max
-unfoldable pub number_of : ℕ → ℕ → List ℕ → Number
-number_of base max s = cond (ltb 0 (length s) && are_digits base s && leb (value_of base 0 s) max) (Value (value_of base 0 s)) None
+unfoldable pub number_of : ℕ → ℕ → List ℕ → Option ℕ
+number_of base max s = cond (ltb 0 (length s) && are_digits base s && leb (value_of base 0 s) max) (Some (value_of base 0 s)) None
 
-unfoldable pub hex_number : ℕ → List ℕ → Number
+unfoldable pub hex_number : ℕ → List ℕ → Option ℕ
 hex_number max s = number_of 16 max (after_plus (after_prefix s))
 
-unfoldable pub decimal_number : ℕ → List ℕ → Number
+unfoldable pub decimal_number : ℕ → List ℕ → Option ℕ
 decimal_number max s = number_of 10 max (after_plus s)

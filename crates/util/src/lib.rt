@@ -5,13 +5,6 @@ ghost use Rattle.std.specs.Prelude.{◌≡◌, ◌<◌, ◌≤◌, length};
 ghost use Rattle.util.specs.Number.{digit_of, after_prefix, after_plus, number_of, hex_number, decimal_number};
 ghost use Rattle.util.specs.Bits.{bits_of};
 
-// A number that was read, or none.
-#[derive(Clone, Copy)]
-pub enum Number {
-    Value(u64),
-    None,
-}
-
 // The largest values of 16, 32 and 64 bits.
 pub const MAX_16: u64 = 0xffff;
 
@@ -84,57 +77,53 @@ fn after_plus(s: &[u8]) -> &[u8]
 }
 
 // The number that `s` writes in the base, if it is one of at most `max`; of so few digits that no sum passes 64 bits.
-fn short_digits(s: &[u8], base: u64, max: u64) -> Number
+fn short_digits(s: &[u8], base: u64, max: u64) -> Option<u64>
     requires { (0 < base) × (base ≤ 16) × (0 < length s.now) × (length s.now ≤ 15) }
     ensures { result ≡ number_of base max s.now }
 {
     let mut v: u64 = 0;
-    let mut i: usize = 0;
-    while i < s.len() {
-        let d = digit(s[i]);
+    for &b in s {
+        let d = digit(b);
         if base <= d {
-            return Number::None;
+            return None;
         }
         v = v * base + d;
-        i += 1;
     }
     if max < v {
-        return Number::None;
+        return None;
     }
-    Number::Value(v)
+    Some(v)
 }
 
 // The same of any number of digits. Each digit is tested before it is added, so that no sum passes `max`.
-fn long_digits(s: &[u8], base: u64, max: u64) -> Number
+fn long_digits(s: &[u8], base: u64, max: u64) -> Option<u64>
     requires { 0 < base }
     ensures { result ≡ number_of base max s.now }
 {
     if s.len() < 1 {
-        return Number::None;
+        return None;
     }
     let most = max / base;
     let mut v: u64 = 0;
-    let mut i = 0;
-    while i < s.len() {
-        let d = digit(s[i]);
+    for &b in s {
+        let d = digit(b);
         if base <= d {
-            return Number::None;
+            return None;
         }
         if most < v {
-            return Number::None;
+            return None;
         }
         let shifted = v * base;
         if max - shifted < d {
-            return Number::None;
+            return None;
         }
         v = shifted + d;
-        i += 1;
     }
-    Number::Value(v)
+    Some(v)
 }
 
 // The same of any text.
-fn digits(s: &[u8], base: u64, max: u64) -> Number
+fn digits(s: &[u8], base: u64, max: u64) -> Option<u64>
     requires { (0 < base) × (base ≤ 16) }
     ensures { result ≡ number_of base max s.now }
 {
@@ -142,20 +131,20 @@ fn digits(s: &[u8], base: u64, max: u64) -> Number
         return long_digits(s, base, max);
     }
     if s.len() < 1 {
-        return Number::None;
+        return None;
     }
     short_digits(s, base, max)
 }
 
 // A hexadecimal number of at most `max`, as the Rust's `parse_hex` reads it at the width whose largest value is `max`.
-pub fn parse_hex(s: &[u8], max: u64) -> Number
+pub fn parse_hex(s: &[u8], max: u64) -> Option<u64>
     ensures { result ≡ hex_number max s.now }
 {
     digits(after_plus(after_prefix(s)), 16, max)
 }
 
 // A decimal number of at most `max`, as `str::parse` reads it.
-pub fn parse_decimal(s: &[u8], max: u64) -> Number
+pub fn parse_decimal(s: &[u8], max: u64) -> Option<u64>
     ensures { result ≡ decimal_number max s.now }
 {
     digits(after_plus(s), 10, max)

@@ -1,4 +1,5 @@
 -- Laws on a device's group: its bounds are ordered and inside the words, and it has at least its head's four words. Assumes nothing.
+use Rattle.std.specs.Prelude.{Option, None, Some, Result, Ok, Err, ok_or}
 use Prim.Native.Nat.{ℕ, zero, suc, ◌+◌, ◌-◌, ◌<◌, ◌≤◌}
 use native.Mathlib.Omega.{arith}
 use native.Mathlib.Decide.{dec_lt, dec_le, ℕ_discrete}
@@ -6,20 +7,21 @@ use native.Mathlib.Nat.{le_refl, le_trans}
 use mathlib.Core.Path.{◌≡◌, refl, ◌∙◌, ap, sym, subst}
 use mathlib.Core.Bool.{Bool, true, false, false≢true}
 use mathlib.Core.List.{List, [], ◌∷◌}
-use lib.ListN.{length, get_or, drop, length-take, length-drop}
+use lib.ListN.{length, get_or, take, drop, length-take, length-drop}
 use borrow.Author.Tests.{lt-ltb, le-ltb}
 use Rattle.refusal.specs.Outcome.{Outcome, refused, value, bind}
+use Rattle.refusal.specs.Refusal.{outcome}
+use Rattle.refusal.specs.declared.Refusal.{Refusal}
+use Rattle.refusal.specs.declared.Refusal.TheVariants as refusal
+use Rattle.refusal.proofs.Laws.{numbered}
 use Rattle.layout.specs.Layout.{kind}
 use Rattle.survey.specs.Words.{size_of}
 use Rattle.survey.specs.Rules.{check_of}
 use Rattle.survey.specs.Places.{device_heads, group_at}
 use Rattle.survey.specs.Work.{heads_at}
-use Rattle.survey.specs.declared.Placed.{Placed}
-use Rattle.survey.specs.declared.Placed.TheVariants as placed
+use Rattle.survey.specs.declared.Bounds.{Bounds}
 use Rattle.survey.proofs.Laws.{heads_end, heads_cut, heads_device, heads_other, size_pos}
-use Rattle.view.specs.View.{Bounds, bounds_by, group_place, words_by, group_words, stand_outcome}
-use Rattle.view.specs.declared.Stand.{Stand}
-use Rattle.view.specs.declared.Stand.TheVariants as stand
+use Rattle.view.specs.View.{bounds_by, group_place, words_by, group_words}
 
 -- heads from i on, each with its four words before the next and before n
 data Spaced (n : ℕ) : ℕ → List ℕ → Type 0 where
@@ -55,57 +57,55 @@ module _ (t : List ℕ) where
   unfolding device_heads
   heads_all = heads_spaced (length t) 0 (omega arith)
 
-  group_bounds : (p a b : ℕ) → placed.Group a b ≡ group_at t p → (a + 4 ≤ b) × (b ≤ length t)
+  group_bounds : (p : ℕ) (b : Bounds) → Some b ≡ group_at t p → (b.start + 4 ≤ b.end) × (b.end ≤ length t)
   unfolding group_at
-  group_bounds p a b e = go (dec_lt p (length (device_heads t)))
+  group_bounds p b e = go (dec_lt p (length (device_heads t)))
     where
-      go : Dec (p < length (device_heads t)) → (a + 4 ≤ b) × (b ≤ length t)
+      go : Dec (p < length (device_heads t)) → (b.start + 4 ≤ b.end) × (b.end ≤ length t)
       go (yes h) =
           let x = spaced_at heads_all p h in
-          let y : placed.Group a b ≡ placed.Group (get_or (device_heads t) p 0) (get_or (device_heads t) (suc p) (length t)) = e ∙ simp (lt-ltb p (length (device_heads t)) h) in
-          let l : a ≡ get_or (device_heads t) p 0 = cc in
-          let r : b ≡ get_or (device_heads t) (suc p) (length t) = cc in
+          let y : Some b ≡ Some (record { start = get_or (device_heads t) p 0; end = get_or (device_heads t) (suc p) (length t) }) = e ∙ simp (lt-ltb p (length (device_heads t)) h) in
+          let l : b.start ≡ get_or (device_heads t) p 0 = cc in
+          let r : b.end ≡ get_or (device_heads t) (suc p) (length t) = cc in
           (omega arith, omega arith)
       go (no h) =
-          let y : placed.Group a b ≡ placed.Nowhere = e ∙ simp (le-ltb p (length (device_heads t)) (omega arith)) in
-          absurd (let z : ◌≡◌ {A = ℕ} 0 1 = cc in omega arith)
+          let y : Some b ≡ None = e ∙ simp (le-ltb p (length (device_heads t)) (omega arith)) in
+          absurd cc
+
+-- a place that is had, or that there is none
+pub place_by : (g : Option Bounds) → outcome (ok_or g refusal.Missing) ≡ bounds_by g
+unfolding bounds_by
+place_by (Some b) = refl
+place_by None = refl
 
 module _ (t : List ℕ) (p : ℕ) where
-  -- what is answered, by what the two rules answer
-  pub refused_first : (n : ℕ) (vs : List ℕ) → refused n vs ≡ check_of t → refused n vs ≡ group_place t p
-  unfolding group_place bind
-  refused_first n vs e = ap (λ (o : Outcome Unit). bind o (λ ok. bounds_by (group_at t p))) e
-
-  pub place_then : (g : Placed) → value tt ≡ check_of t → g ≡ group_at t p → bounds_by g ≡ group_place t p
-  unfolding group_place bind
-  place_then g e f = ap bounds_by f ∙ ap (λ (o : Outcome Unit). bind o (λ ok. bounds_by (group_at t p))) e
-
   -- a group that is had starts and ends inside the words, its head's four words between
   pub place_bounds : (b : Bounds) → value b ≡ group_place t p → (b.start + 4 ≤ b.end) × (b.end ≤ length t)
   unfolding group_place bounds_by bind
   place_bounds b e = first (check_of t) e
     where
-      second : (g : Placed) → g ≡ group_at t p → value b ≡ bounds_by g → (b.start + 4 ≤ b.end) × (b.end ≤ length t)
-      second (placed.Group x y) f e' =
-          let k = group_bounds t p x y f in
-          let l : b.start ≡ x = cc in
-          let r : b.end ≡ y = cc in
-          (omega (arith, k.0), omega (arith, k.1))
-      second placed.Nowhere f e' = absurd (let z : ◌≡◌ {A = ℕ} 0 1 = cc in omega arith)
+      second : (g : Option Bounds) → g ≡ group_at t p → value b ≡ bounds_by g → (b.start + 4 ≤ b.end) × (b.end ≤ length t)
+      second (Some x) f e' =
+          let l : b ≡ x = cc in
+          group_bounds t p b (ap (λ (y : Bounds). Some y) l ∙ f)
+      second None f e' = absurd (let z : ◌≡◌ {A = ℕ} 0 1 = cc in omega arith)
 
       first : (o : Outcome Unit) → value b ≡ bind o (λ ok. bounds_by (group_at t p)) → (b.start + 4 ≤ b.end) × (b.end ≤ length t)
       first (value u) e' = second (group_at t p) refl e'
       first (refused n vs) e' = absurd (let z : ◌≡◌ {A = ℕ} 0 1 = cc in omega arith)
 
-  -- of a stand that answers so: its bounds, and the words
-  module _ (r : Stand) (e : stand_outcome r ≡ group_place t p) where
-    pub stand_bounds : (a b : ℕ) → r ≡ stand.Group a b → (a + 4 ≤ b) × (b ≤ length t)
-    unfolding stand_outcome
-    stand_bounds a b f = place_bounds (record { start = a; end = b }) (ap stand_outcome (sym f) ∙ e)
+  -- of an answer: its bounds, and the words
+  module _ (r : Result Bounds Refusal) (e : outcome r ≡ group_place t p) where
+    pub stand_bounds : (b : Bounds) → r ≡ Ok b → (b.start + 4 ≤ b.end) × (b.end ≤ length t)
+    stand_bounds b f = place_bounds b (ap outcome (sym f) ∙ e)
 
-    pub stand_words : (s : Stand) → r ≡ s → words_by t (stand_outcome s) ≡ group_words t p
-    unfolding group_words
-    stand_words s f = ap (λ (x : Stand). words_by t (stand_outcome x)) (sym f) ∙ ap (words_by t) e
+    pub words_had : (b : Bounds) → r ≡ Ok b → take (b.end - b.start) (drop b.start t) ≡ group_words t p
+    unfolding group_words words_by
+    words_had b f = ap (words_by t) (ap outcome (sym f) ∙ e)
+
+    pub words_none : (q : Refusal) → r ≡ Err q → [] ≡ group_words t p
+    unfolding group_words words_by
+    words_none q f = let x = numbered Bounds q in ap (words_by t) (sym x.2 ∙ ap outcome (sym f) ∙ e)
 
 -- whether an answer is a refusal
 unfoldable pub is_refused : {A : Type 0} → Outcome A → Bool

@@ -2,9 +2,11 @@
 #![tactic(auto)]
 
 ghost use Rattle.std.specs.Prelude.{◌≡◌};
-ghost use Rattle.view.specs.View.{group_place, group_words, stand_outcome};
+ghost use Rattle.view.specs.View.{group_place, group_words};
+ghost use Rattle.refusal.specs.Refusal.{outcome};
 
-use survey::{Checked, Placed};
+use refusal::Refusal;
+use survey::Bounds;
 
 // The survey's words, and one device's place.
 #[derive(Clone, Copy)]
@@ -13,25 +15,12 @@ pub struct View<'a> {
     pub place: usize,
 }
 
-// Where a device's group stands, from its start up to its end; where the words are refused (4); or that there is no such device (14).
-#[derive(Clone, Copy)]
-pub enum Stand {
-    Group(usize, usize),
-    Broken(usize),
-    Missing,
-}
-
-// Where the group of the device at a place stands.
-pub fn stand_of(survey: &[u32], place: usize) -> Stand
-    ensures { stand_outcome result ≡ group_place survey.now place }
+// Where the group of the device at a place stands; refused where the words are (4), then where there is no such device (14).
+pub fn stand_of(survey: &[u32], place: usize) -> Result<Bounds, Refusal>
+    ensures { outcome result ≡ group_place survey.now place }
 {
-    if let Checked::Refused(p) = wellformed::check(survey) {
-        return Stand::Broken(p);
-    }
-    match places::device_group(survey, place) {
-        Placed::Group(start, end) => Stand::Group(start, end),
-        Placed::Nowhere => Stand::Missing,
-    }
+    wellformed::check(survey)?;
+    places::device_group(survey, place).ok_or(Refusal::Missing)
 }
 
 // The words of the group of the device at a place; none where its place is refused.
@@ -39,15 +28,14 @@ pub fn words_of<'a>(survey: &'a [u32], place: usize) -> &'a [u32]
     ensures { result.now ≡ group_words survey.now place }
 {
     match stand_of(survey, place) {
-        Stand::Group(start, end) => &survey[start..end],
-        Stand::Broken(_) => &survey[0..0],
-        Stand::Missing => &survey[0..0],
+        Ok(group) => &survey[group.start..group.end],
+        Err(_) => &survey[0..0],
     }
 }
 
 // Where the view's group stands.
-pub fn stands<'a>(v: View<'a>) -> Stand
-    ensures { stand_outcome result ≡ group_place v.entry.words.now v.entry.place }
+pub fn stands<'a>(v: View<'a>) -> Result<Bounds, Refusal>
+    ensures { outcome result ≡ group_place v.entry.words.now v.entry.place }
 {
     stand_of(v.words, v.place)
 }
@@ -56,12 +44,12 @@ pub fn stands<'a>(v: View<'a>) -> Stand
 #[derive(Clone, Copy)]
 pub struct Shown<'a> {
     pub part: &'a [u32],
-    pub stand: Stand,
+    pub stand: Result<Bounds, Refusal>,
 }
 
 // The view's group, a part of the words lent, empty exactly where its place is refused, beside where it stands.
 pub fn group<'a>(v: View<'a>) -> Shown<'a>
-    ensures { (result.part.now ≡ group_words v.entry.words.now v.entry.place) × (stand_outcome result.stand ≡ group_place v.entry.words.now v.entry.place) }
+    ensures { (result.part.now ≡ group_words v.entry.words.now v.entry.place) × (outcome result.stand ≡ group_place v.entry.words.now v.entry.place) }
 {
     let part = words_of(v.words, v.place);
     let stand = stand_of(v.words, v.place);

@@ -4,7 +4,8 @@ use mathlib.Core.Path.{◌≡◌, refl, sym, ap, ◌∙◌, subst}
 use mathlib.Core.Logic.{◌⊎◌, inl, inr, ⊎_elim}
 use mathlib.Core.Bool.{Bool, true, false, cond, ◌&&◌, true≢false, false≢true}
 use mathlib.Core.List.{List, [], ◌∷◌}
-use mathlib.Core.Option.{Option, none, some, none-ne-some}
+use Rattle.std.specs.Prelude.{Option, None, Some}
+use Rattle.std.proofs.lemmas.Option.{none-some}
 use native.Mathlib.Omega.{arith}
 use lib.Dec.{ltb, eqb}
 use lib.ListN.{length}
@@ -43,23 +44,23 @@ stands_where s e q =
     rw (x, y, z) refl
 
 -- the entry found is one of the table, and stands where it was looked for
-found_entry : (es : List EntryRow) (s : Stand) (e : EntryRow) → entry_in es s.place s.adapter s.hop_id ≡ some e → (has (stands_at s) es ≡ true) × (stand_of e ≡ s)
+found_entry : (es : List EntryRow) (s : Stand) (e : EntryRow) → entry_in es s.place s.adapter s.hop_id ≡ Some e → (has (stands_at s) es ≡ true) × (stand_of e ≡ s)
 unfolding entry_in has
-found_entry [] s e q = absurd (none-ne-some e q)
+found_entry [] s e q = absurd (none-some e q)
 found_entry (y ∷ es) s e q = go (stands_at s y) refl (λ r. found_entry es s e r) q
   where
-    go : (b : Bool) → stands_at s y ≡ b → (entry_in es s.place s.adapter s.hop_id ≡ some e → (has (stands_at s) es ≡ true) × (stand_of e ≡ s))
-        → cond b (some y) (entry_in es s.place s.adapter s.hop_id) ≡ some e → (cond b true (has (stands_at s) es) ≡ true) × (stand_of e ≡ s)
+    go : (b : Bool) → stands_at s y ≡ b → (entry_in es s.place s.adapter s.hop_id ≡ Some e → (has (stands_at s) es ≡ true) × (stand_of e ≡ s))
+        → cond b (Some y) (entry_in es s.place s.adapter s.hop_id) ≡ Some e → (cond b true (has (stands_at s) es) ≡ true) × (stand_of e ≡ s)
     go true w ih r = let z : y ≡ e = cc in (refl, ap stand_of (sym z) ∙ stands_where s y w)
     go false w ih r = ih r
 
-pub entry_key_lem : (es : List EntryRow) (p a h : ℕ) (e : EntryRow) → entry_in es p a h ≡ some e → (e.device ≡ p) × (e.adapter ≡ a) × (e.in_hop ≡ h)
+pub entry_key_lem : (es : List EntryRow) (p a h : ℕ) (e : EntryRow) → entry_in es p a h ≡ Some e → (e.device ≡ p) × (e.adapter ≡ a) × (e.in_hop ≡ h)
 unfolding stand_of
 entry_key_lem es p a h e q =
     let z = (found_entry es (record { place = p; adapter = a; hop_id = h }) e q).1 in
     (ap (λ (s : Stand). s.place) z, ap (λ (s : Stand). s.adapter) z, ap (λ (s : Stand). s.hop_id) z)
 
-hop_tells : (x : Rows) (s : Stand) (e : EntryRow) → (walk_on x).hop s ≡ some e → stand_of e ≡ s
+hop_tells : (x : Rows) (s : Stand) (e : EntryRow) → (walk_on x).hop s ≡ Some e → stand_of e ≡ s
 unfolding walk_on
 hop_tells x s e q = (found_entry x.entries s e q).1
 
@@ -78,7 +79,7 @@ unfolding walk_from settled
 walk_never x s g = let w = hop_to_make (walk_on x) s (valid_entries x) (g (valid_entries x)) in rw w.2 refl
 
 -- a path has a hop, or an end that a hop led to
-settled_path : (hs ks : List EntryRow) (z : Spot Stand End) → settled hs z ≡ value (some ks) → (hs ≡ ks) × ((0 < length hs) ⊎ (z ≡ ended path))
+settled_path : (hs ks : List EntryRow) (z : Spot Stand End) → settled hs z ≡ value (Some ks) → (hs ≡ ks) × ((0 < length hs) ⊎ (z ≡ ended path))
 unfolding settled path_of
 settled_path hs ks (stand y) q = absurd (let z : ◌≡◌ {A = ℕ} 0 1 = cc in omega arith)
 settled_path hs ks (ended path) q = (cc, inr refl)
@@ -103,8 +104,8 @@ unfolding walk_n arrive found
 not_at_start W s e q = go (W.hop s) q
   where
     go : (o : Option EntryRow) → found {E = End} s o ≡ ended e → ⊥
-    go none p = let z : ◌≡◌ {A = ℕ} 0 1 = cc in omega arith
-    go (some h) p = let z : ◌≡◌ {A = ℕ} 0 1 = cc in omega arith
+    go None p = let z : ◌≡◌ {A = ℕ} 0 1 = cc in omega arith
+    go (Some h) p = let z : ◌≡◌ {A = ℕ} 0 1 = cc in omega arith
 
 -- the number of its hops, where it comes to a path
 pub record Hopped (x : Rows) (s : Stand) (hs : List EntryRow) : Type 0 where
@@ -114,7 +115,7 @@ pub record Hopped (x : Rows) (s : Stand) (hs : List EntryRow) : Type 0 where
   pub hops : hops_n (walk_on x) s count ≡ hs
   pub long : length hs ≡ count
 
-pub hopped : (x : Rows) (s : Stand) (hs : List EntryRow) → walk_from x s ≡ value (some hs) → Hopped x s hs
+pub hopped : (x : Rows) (s : Stand) (hs : List EntryRow) → walk_from x s ≡ value (Some hs) → Hopped x s hs
 hopped x s hs q = ⊎_elim (λ w. go w.0 w.2) (λ g. absurd (let z : ◌≡◌ {A = ℕ} 0 1 = cc (walk_never x s g) in omega arith)) (ends_or_never (walk_on x) (valid_entries x) (ranked x) s)
   where
     go : (n : ℕ) → EndsAfter (walk_on x) s n → Hopped x s hs
@@ -157,8 +158,8 @@ module _ (x : Rows) (s : Stand) (g : Sound x s) where
 
   fine_found : (y : Stand) (o : Option EntryRow) → There x y.place → Fine (found y o)
   unfolding found
-  fine_found y none t = tt
-  fine_found y (some h) t = t
+  fine_found y None t = tt
+  fine_found y (Some h) t = t
 
   fine_turn : (p : ℕ) (e : EntryRow) (o : Outcome Way) → There x p → leads x p e.out_adapter ≡ o → Fine (turned (walk_on x) (turn_by e o))
   unfolding turned turn_by arrive
@@ -169,8 +170,8 @@ module _ (x : Rows) (s : Stand) (g : Sound x s) where
 
   fine_made : (y : Stand) (o : Option EntryRow) → There x y.place → Fine (made (walk_on x) y o)
   unfolding made walk_on
-  fine_made y none t = tt
-  fine_made y (some e) t = fine_turn y.place e _ t refl
+  fine_made y None t = tt
+  fine_made y (Some e) t = fine_turn y.place e _ t refl
 
   fine_onward : (z : Spot Stand End) → Fine z → Fine (onward (walk_on x) z)
   unfolding onward
@@ -199,23 +200,23 @@ sound en ad ro ma s d q = record {
 -- ---- demand 3
 
 -- a number of hops answers a path; 13 answers 13 alone
-room_some : (need : List EntryRow → ℕ) (room n : ℕ) (o : Outcome (Option (List EntryRow))) → bind o (in_room need room) ≡ value (some n) → (hs : List EntryRow) × (o ≡ value (some hs)) × (length hs ≡ n)
+room_some : (need : List EntryRow → ℕ) (room n : ℕ) (o : Outcome (Option (List EntryRow))) → bind o (in_room need room) ≡ value (Some n) → (hs : List EntryRow) × (o ≡ value (Some hs)) × (length hs ≡ n)
 unfolding bind in_room
 room_some need room n (refused k vs) q = absurd (let z : ◌≡◌ {A = ℕ} 0 1 = cc in omega arith)
-room_some need room n (value none) q = absurd (let z : ◌≡◌ {A = ℕ} 0 1 = cc in omega arith)
-room_some need room n (value (some hs)) q = go (ltb room (need hs)) q
+room_some need room n (value None) q = absurd (let z : ◌≡◌ {A = ℕ} 0 1 = cc in omega arith)
+room_some need room n (value (Some hs)) q = go (ltb room (need hs)) q
   where
-    go : (b : Bool) → cond b (refused 2 (need hs ∷ [])) (value (some (length hs))) ≡ value (some n) → (ks : List EntryRow) × (value (some hs) ≡ value (some ks)) × (length ks ≡ n)
+    go : (b : Bool) → cond b (refused 2 (need hs ∷ [])) (value (Some (length hs))) ≡ value (Some n) → (ks : List EntryRow) × (value (Some hs) ≡ value (Some ks)) × (length ks ≡ n)
     go true p = absurd (let z : ◌≡◌ {A = ℕ} 0 1 = cc in omega arith)
     go false p = (hs, refl, cc)
 
 room_ring : (need : List EntryRow → ℕ) (room : ℕ) (o : Outcome (Option (List EntryRow))) → bind o (in_room need room) ≡ refused 13 [] → o ≡ refused 13 []
 unfolding bind in_room
 room_ring need room (refused k vs) q = cc
-room_ring need room (value none) q = absurd (let z : ◌≡◌ {A = ℕ} 0 1 = cc in omega arith)
-room_ring need room (value (some hs)) q = absurd (go (ltb room (need hs)) q)
+room_ring need room (value None) q = absurd (let z : ◌≡◌ {A = ℕ} 0 1 = cc in omega arith)
+room_ring need room (value (Some hs)) q = absurd (go (ltb room (need hs)) q)
   where
-    go : (b : Bool) → cond b (refused 2 (need hs ∷ [])) (value (some (length hs))) ≡ refused 13 [] → ⊥
+    go : (b : Bool) → cond b (refused 2 (need hs ∷ [])) (value (Some (length hs))) ≡ refused 13 [] → ⊥
     go true p = let z : ◌≡◌ {A = ℕ} 2 13 = cc in omega arith
     go false p = let z : ◌≡◌ {A = ℕ} 0 1 = cc in omega arith
 
@@ -227,7 +228,7 @@ ring_never x s g q = ⊎_elim
     (ends_or_never (walk_on x) (valid_entries x) (ranked x) s)
 
 pub rule : (x : Rows) (s : Stand) (need : List EntryRow → ℕ) (room : ℕ) (Wrote : List EntryRow → Type 0) (o : Outcome (Option ℕ)) → Sound x s → o ≡ bind (walk_from x s) (in_room need room)
-    → ((hs : List EntryRow) (n : ℕ) → walk_from x s ≡ value (some hs) → o ≡ value (some n) → Wrote hs) → WalkRule x s need room Wrote o
+    → ((hs : List EntryRow) (n : ℕ) → walk_from x s ≡ value (Some hs) → o ≡ value (Some n) → Wrote hs) → WalkRule x s need room Wrote o
 unfolding bind
 rule x s need room Wrote o g q wrote = record {
   bounded = ends_or_never (walk_on x) (valid_entries x) (ranked x) s;
@@ -244,7 +245,7 @@ rule x s need room Wrote o g q wrote = record {
     from_never : Never (walk_on x) s → o ≡ refused 13 []
     from_never n = q ∙ ap (λ (w : Outcome (Option (List EntryRow))). bind w (in_room need room)) (walk_never x s n)
 
-    to_path : (n : ℕ) → o ≡ value (some n) → (hs : List EntryRow) × (walk_from x s ≡ value (some hs)) × (length hs ≡ n) → PathRule x s n × Wrote (hops_n (walk_on x) s n)
+    to_path : (n : ℕ) → o ≡ value (Some n) → (hs : List EntryRow) × (walk_from x s ≡ value (Some hs)) × (length hs ≡ n) → PathRule x s n × Wrote (hops_n (walk_on x) s n)
     to_path n p (hs, f, l) = subst (λ (m : ℕ). PathRule x s m × Wrote (hops_n (walk_on x) s m)) (sym h.long ∙ l) (path_rule x s h.count h.one h.ends, subst Wrote (sym h.hops) (wrote hs n f p))
       where
         h : Hopped x s hs

@@ -3,7 +3,8 @@ use Prim.Native.Nat.{ℕ, zero, suc, ◌<◌}
 use mathlib.Core.Path.{◌≡◌, refl, subst}
 use mathlib.Core.Bool.{Bool, true, false, cond, ◌&&◌}
 use mathlib.Core.List.{List, [], ◌∷◌}
-use mathlib.Core.Option.{Option, none, some, none-ne-some}
+use Rattle.std.specs.Prelude.{Option, None, Some}
+use Rattle.std.proofs.lemmas.Option.{none-some}
 use native.Mathlib.Omega.{arith}
 use lib.ListN.{length}
 use Rattle.refusal.specs.Outcome.{Outcome, refused, value, bind}
@@ -11,10 +12,6 @@ use Rattle.refusal.specs.Refusal.{refusal_of}
 use Rattle.refusal.specs.declared.Site.{Site}
 use Rattle.refusal.specs.declared.Fault.TheVariants.{NoParentRoute, NoDownstreamRoute}
 use Rattle.route.specs.Route.{upstream_route, downstream_route}
-use Rattle.route.specs.declared.RouteFound.{RouteFound}
-use Rattle.route.specs.declared.RouteFound.TheVariants as route
-use Rattle.route.specs.declared.AdapterFound.{AdapterFound}
-use Rattle.route.specs.declared.AdapterFound.TheVariants as adapter
 use Rattle.adapter.specs.Adapter.{AdapterRow, adapter_site, is_lane}
 use Rattle.tables.specs.Rows.{EntryRow, DeviceRow, Rows, adapter_in, device_in}
 use Rattle.tables.specs.Packed.{device_word, devices_from, upstream_by}
@@ -27,7 +24,7 @@ use Rattle.walk.specs.Rule.{walk_fault}
 
 -- a device stands at the place
 abbrev pub There : Rows → ℕ → Type 0
-There x p = (d : DeviceRow) × (device_in x.devices p ≡ some d)
+There x p = (d : DeviceRow) × (device_in x.devices p ≡ Some d)
 
 -- a refusal is one that a walk may be refused with
 abbrev pub Faulty : {A : Type 0} → Outcome A → Type 0
@@ -45,59 +42,59 @@ upstream_route_lem : (p : ℕ) (d : DeviceRow) (y : AdapterRow) → Faulty (upst
 unfolding upstream_route_of route_or refusal_of walk_fault
 upstream_route_lem p d y = go (is_lane y.kind && is_upstream d.upstream y.number) (upstream_route d.route)
   where
-    go : (b : Bool) (r : RouteFound) → Faulty (cond b (route_or (NoParentRoute (adapter_site p y.number)) r) (value none))
-    go true (route.Route r) = tt
-    go true route.None = refl
+    go : (b : Bool) (r : Option ℕ) → Faulty (cond b (route_or (NoParentRoute (adapter_site p y.number)) r) (value None))
+    go true (Some r) = tt
+    go true None = refl
     go false r = tt
 
 downstream_route_lem : (p : ℕ) (d : DeviceRow) (y : AdapterRow) → Faulty (downstream_route_of p d y)
 unfolding downstream_route_of route_or refusal_of walk_fault
 downstream_route_lem p d y = go (is_lane y.kind) (downstream_route d.route y.number)
   where
-    go : (b : Bool) (r : RouteFound) → Faulty (cond b (route_or (NoDownstreamRoute (adapter_site p y.number)) r) (value none))
-    go true (route.Route r) = tt
-    go true route.None = refl
+    go : (b : Bool) (r : Option ℕ) → Faulty (cond b (route_or (NoDownstreamRoute (adapter_site p y.number)) r) (value None))
+    go true (Some r) = tt
+    go true None = refl
     go false r = tt
 
 -- the upstream adapters of rows are refused in no other way
 abbrev pub Upstreams : Rows → Type 0
-Upstreams x = (q : ℕ) (e : DeviceRow) → device_in x.devices q ≡ some e → Faulty e.upstream
+Upstreams x = (q : ℕ) (e : DeviceRow) → device_in x.devices q ≡ Some e → Faulty e.upstream
 
 module _ (x : Rows) where
   lands_stand : (q n : ℕ) (y : Option AdapterRow) → There x q → Lands x (value (stand_by q n y))
   unfolding stand_by
-  lands_stand q n none t = tt
-  lands_stand q n (some y) t = t
+  lands_stand q n None t = tt
+  lands_stand q n (Some y) t = t
 
-  lands_up : (q : ℕ) (f : AdapterFound) → There x q → Lands x (value (up_by x q f))
+  lands_up : (q : ℕ) (f : Option ℕ) → There x q → Lands x (value (up_by x q f))
   unfolding up_by stand_at
-  lands_up q adapter.None t = tt
-  lands_up q (adapter.Adapter n) t = lands_stand q n _ t
+  lands_up q None t = tt
+  lands_up q (Some n) t = lands_stand q n _ t
 
   lands_down : (q : ℕ) (u : Outcome (Option ℕ)) → There x q → Faulty u → Lands x (bind u (λ n. value (down_by x q n)))
   unfolding bind down_by stand_at
   lands_down q (refused k vs) t s = s
-  lands_down q (value none) t s = tt
-  lands_down q (value (some n)) t s = lands_stand q n _ t
+  lands_down q (value None) t s = tt
+  lands_down q (value (Some n)) t s = lands_stand q n _ t
 
   abbrev Arrives : (ℕ → DeviceRow → Outcome Way) → Type 0
-  Arrives f = (q : ℕ) (e : DeviceRow) → device_in x.devices q ≡ some e → Lands x (f q e)
+  Arrives f = (q : ℕ) (e : DeviceRow) → device_in x.devices q ≡ Some e → Lands x (f q e)
 
   lands_device : (f : ℕ → DeviceRow → Outcome Way) (q : ℕ) (o : Option DeviceRow) → device_in x.devices q ≡ o → Arrives f → Lands x (to_device q o f)
   unfolding to_device
-  lands_device f q none e g = tt
-  lands_device f q (some d) e g = g q d e
+  lands_device f q None e g = tt
+  lands_device f q (Some d) e g = g q d e
 
   lands_router : (f : ℕ → DeviceRow → Outcome Way) (o : Option ℕ) → Arrives f → Lands x (to_router x o f)
   unfolding to_router
-  lands_router f none g = tt
-  lands_router f (some q) g = lands_device f q _ refl g
+  lands_router f None g = tt
+  lands_router f (Some q) g = lands_device f q _ refl g
 
   lands_route : (f : ℕ → DeviceRow → Outcome Way) (d : DeviceRow) (o : Outcome (Option ℕ)) → Faulty o → Arrives f → Lands x (bind o (λ r. to_route x d r f))
   unfolding bind to_route
   lands_route f d (refused k vs) s g = s
-  lands_route f d (value none) s g = tt
-  lands_route f d (value (some r)) s g = lands_router f _ g
+  lands_route f d (value None) s g = tt
+  lands_route f d (value (Some r)) s g = lands_router f _ g
 
   lands_cond : (b : Bool) (o w : Outcome Way) → Lands x o → Lands x w → Lands x (cond b o w)
   lands_cond true o w l m = l
@@ -111,10 +108,10 @@ module _ (x : Rows) where
 
   lands_by : (p o : ℕ) (d : DeviceRow) (y : Option AdapterRow) → Upstreams x → Lands x (leads_by x p o d y)
   unfolding leads_by refusal_of walk_fault
-  lands_by p o d none s = refl
-  lands_by p o d (some y) s = lands_from p d y s
+  lands_by p o d None s = refl
+  lands_by p o d (Some y) s = lands_from p d y s
 
-  lands : (p o : ℕ) (d : DeviceRow) → device_in x.devices p ≡ some d → Upstreams x → Lands x (leads x p o)
+  lands : (p o : ℕ) (d : DeviceRow) → device_in x.devices p ≡ Some d → Upstreams x → Lands x (leads x p o)
   unfolding leads asked_device present bind
   lands p o d e s = rw e (lands_by p o d _ s)
 
@@ -123,18 +120,18 @@ module _ (x : Rows) where
   unfolding asked_device present
   asked_there p d q = go (device_in x.devices p) q
     where
-      go : (o : Option DeviceRow) → present o ≡ value d → (e : DeviceRow) × (o ≡ some e)
-      go none r = absurd (let z : ◌≡◌ {A = ℕ} 0 1 = cc in omega arith)
-      go (some e) r = (e, refl)
+      go : (o : Option DeviceRow) → present o ≡ value d → (e : DeviceRow) × (o ≡ Some e)
+      go None r = absurd (let z : ◌≡◌ {A = ℕ} 0 1 = cc in omega arith)
+      go (Some e) r = (e, refl)
 
   -- a hop leads on only from a device that is there
   leads_from_lem : (p o : ℕ) (w : Way) → leads x p o ≡ value w → There x p
   unfolding leads asked_device present bind
   leads_from_lem p o w q = go (device_in x.devices p) q
     where
-      go : (y : Option DeviceRow) → bind (present y) (λ d. leads_by x p o d (adapter_in x.adapters p o)) ≡ value w → (e : DeviceRow) × (y ≡ some e)
-      go none r = absurd (let z : ◌≡◌ {A = ℕ} 0 1 = cc in omega arith)
-      go (some e) r = (e, refl)
+      go : (y : Option DeviceRow) → bind (present y) (λ d. leads_by x p o d (adapter_in x.adapters p o)) ≡ value w → (e : DeviceRow) × (y ≡ Some e)
+      go None r = absurd (let z : ◌≡◌ {A = ℕ} 0 1 = cc in omega arith)
+      go (Some e) r = (e, refl)
 
   pub leads_there : Upstreams x → (p o q a : ℕ) → leads x p o ≡ value (on q a) → There x q
   leads_there s p o q a e = let w = leads_from_lem p o (on q a) e in subst (Lands x) e (lands p o w.0 w.1 s)
@@ -150,10 +147,10 @@ upstream_word s zero = tt
 upstream_word s (suc zero) = refl
 upstream_word s (suc (suc n)) = tt
 
-upstreams_from : (p : ℕ) (rs ms : List ℕ) (q : ℕ) (e : DeviceRow) → device_in (devices_from p rs ms) q ≡ some e → Faulty e.upstream
+upstreams_from : (p : ℕ) (rs ms : List ℕ) (q : ℕ) (e : DeviceRow) → device_in (devices_from p rs ms) q ≡ Some e → Faulty e.upstream
 unfolding devices_from device_in device_word
-upstreams_from p [] ms q e h = absurd (none-ne-some e h)
-upstreams_from p (r ∷ rs) [] q e h = absurd (none-ne-some e h)
+upstreams_from p [] ms q e h = absurd (none-some e h)
+upstreams_from p (r ∷ rs) [] q e h = absurd (none-some e h)
 upstreams_from p (r ∷ rs) (m ∷ ms) zero e h = let z : device_word p r m ≡ e = cc in subst (λ (d : DeviceRow). Faulty d.upstream) z (upstream_word _ _)
 upstreams_from p (r ∷ rs) (m ∷ ms) (suc q) e h = upstreams_from (suc p) rs ms q e h
 

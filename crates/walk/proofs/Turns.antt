@@ -2,7 +2,7 @@
 use Prim.Native.Nat.{ℕ, suc, ◌+◌, ◌≤◌, ◌<◌}
 use mathlib.Core.Path.{◌≡◌, refl, sym, ap, ◌∙◌, subst}
 use mathlib.Core.List.{List, [], ◌∷◌, ◌++◌}
-use mathlib.Core.Option.{Option, none, some}
+use Rattle.std.specs.Prelude.{Option, None, Some, Ok, Err, Result}
 use native.Mathlib.Omega.{arith}
 use native.Mathlib.Decide.{dec_lt}
 use lib.Dec.{ltb}
@@ -14,26 +14,26 @@ use Rattle.refusal.specs.declared.Fault.TheVariants.{FewRegisters, NoField, BadA
 use Rattle.tables.specs.Rows.{EntryRow, Rows}
 use Rattle.tables.specs.Packed.{entry_word, entries_in}
 use Rattle.tables.specs.Found.{EntrySought, entry_found}
-use Rattle.tables.specs.declared.EntryAt.{EntryAt}
-use Rattle.tables.specs.declared.EntryAt.TheVariants as entry
 use Rattle.load.specs.Loading.{valid_entries}
-use Rattle.load.specs.Answers.{refused_by}
-use Rattle.load.specs.declared.Refusal.{Refusal}
-use Rattle.load.specs.declared.Refusal.TheVariants as refusal
-use Rattle.load.proofs.Result.{refused_bind}
+use Rattle.refusal.specs.Refusal.{refused_by}
+use Rattle.refusal.specs.declared.Refusal.{Refusal}
+use Rattle.refusal.specs.declared.Refusal.TheVariants as refusal
+use Rattle.refusal.proofs.Laws.{refused_bind, numbered}
 use Rattle.fabric.specs.Fabric.{Way, Way.on, Way.last, Way.dropped, leads}
 use Rattle.fabric.specs.Tables.{rows_with, InOrder, LeadsTo, next_outcome}
-use Rattle.fabric.specs.declared.Next.{Next}
-use Rattle.fabric.specs.declared.Next.TheVariants as next
 use Rattle.orbit.specs.Walk.{Turn.ends as comes-to, Spot.ended, hops_n}
 use Rattle.orbit.proofs.Orbit.{Reached, reach_start, reach_on, reach_ends, reach_stops, reach_hops, reach_never, length_hops}
 use Rattle.walk.specs.Walking.{Stand, End, End.path, End.no_path, End.fault, turn_by, walk_on, path_of}
 use Rattle.walk.specs.Rule.{settled, walk_from, in_room}
 use Rattle.walk.specs.Tables.{rows_of, Tabled, Leaving, last_of, leaving_by, leaving_of, leaves, tally_outcome, hops_outcome, hops_by, is_path, no_need, Tallied, Onward}
-use Rattle.walk.specs.declared.Walked.{Walked}
-use Rattle.walk.specs.declared.Walked.TheVariants as walked
 use Rattle.walk.proofs.Laws.{ranked, walk_ends, walk_never, hopped, sound, rule}
 use Rattle.walk.proofs.Leading.{there_below, leads_there, upstreams}
+use Rattle.adapter.specs.declared.EntryOut.{EntryOut}
+use Rattle.adapter.specs.Paths.{entry_out}
+use Rattle.walk.specs.Tables.{walked_to}
+use Rattle.walk.specs.declared.Walked.{Walked}
+use Rattle.fabric.specs.declared.Next.{Next}
+use Rattle.fabric.specs.declared.Next.TheVariants as next
 
 -- ---- by what a walk leaves
 
@@ -42,7 +42,7 @@ unfolding last_of
 last_more e h [] = refl
 last_more e h (g ∷ hs) = last_more e g hs
 
-pub leaving_more : (hs : List EntryRow) (e : EntryRow) → leaving_of (hs ++ (e ∷ [])) ≡ some (leaving_by (length hs + 1) e)
+pub leaving_more : (hs : List EntryRow) (e : EntryRow) → leaving_of (hs ++ (e ∷ [])) ≡ Some (leaving_by (length hs + 1) e)
 unfolding leaving_of last_of
 leaving_more [] e = refl
 leaving_more (h ∷ hs) e =
@@ -55,21 +55,6 @@ leaves_path [] = refl
 leaves_path (h ∷ hs) = refl
 
 -- ---- a refusal is the same refusal in any answer
-
-refusal_is : (r : Refusal) → (k : ℕ) × (vs : List ℕ) × (refused_by {A = Way} r ≡ refused k vs)
-unfolding refused_by refusal_of
-refusal_is (refusal.Descriptions p) = (_, _, refl)
-refusal_is (refusal.Survey p) = (_, _, refl)
-refusal_is (refusal.Fault (FewRegisters s)) = (_, _, refl)
-refusal_is (refusal.Fault (NoField s)) = (_, _, refl)
-refusal_is (refusal.Fault (BadAdapters p)) = (_, _, refl)
-refusal_is (refusal.Fault (GenTOffset s)) = (_, _, refl)
-refusal_is (refusal.Fault (NoPathDump s)) = (_, _, refl)
-refusal_is (refusal.Fault (NoOutAdapter s)) = (_, _, refl)
-refusal_is (refusal.Fault (NoParentRoute s)) = (_, _, refl)
-refusal_is (refusal.Fault (NoDownstreamRoute s)) = (_, _, refl)
-refusal_is (refusal.Fault Endless) = (_, _, refl)
-refusal_is refusal.Missing = (_, _, refl)
 
 refusal_also : {A : Type 0} (r : Refusal) (k : ℕ) (vs : List ℕ) → refused_by {A = Way} r ≡ refused k vs → refused_by {A = A} r ≡ refused k vs
 unfolding bind
@@ -93,22 +78,22 @@ Answers en ad ro ma s r = r ≡ bind (walk_from (rows_of en ad ro ma) s) (λ o. 
 record Going (en ad ro ma : List ℕ) (s : Stand) (n p a h from out : ℕ) : Type 0 where
   reached : Reached (walk_on (rows_of en ad ro ma)) s n (at p a h)
   below : p < 65536
-  leaving : leaving_of (hops_n (walk_on (rows_of en ad ro ma)) s n) ≡ some (record { hops = n; place = from; adapter = out; hop_id = h })
+  leaving : leaving_of (hops_n (walk_on (rows_of en ad ro ma)) s n) ≡ Some (record { hops = n; place = from; adapter = out; hop_id = h })
 
 -- the same with the hop that is found there
 record Hop (en ad ro ma : List ℕ) (s : Stand) (n p a h out hop : ℕ) : Type 0 where
   reached : Reached (walk_on (rows_of en ad ro ma)) s n (at p a h)
-  found : (walk_on (rows_of en ad ro ma)).hop (at p a h) ≡ some (hop_row p a h out hop)
+  found : (walk_on (rows_of en ad ro ma)).hop (at p a h) ≡ Some (hop_row p a h out hop)
 
 in_order : {en ad ro : List ℕ} → Tabled en ad ro → InOrder ad ro
 in_order t = record { adapters = t.adapter_order; devices = omega (arith, t.devices) }
 
 module _ (en ad ro ma : List ℕ) (s : Stand) where
-  looked : {p a h : ℕ} {r : EntryAt} → Tabled en ad ro → p < 65536 → EntrySought en p a h r → (walk_on (rows_of en ad ro ma)).hop (at p a h) ≡ entry_found p a h r
+  looked : {p a h : ℕ} {r : Option EntryOut} → Tabled en ad ro → p < 65536 → EntrySought en p a h r → (walk_on (rows_of en ad ro ma)).hop (at p a h) ≡ entry_found p a h r
   unfolding walk_on rows_of rows_with
   looked t l q = sym (q.first l t.entry_order)
 
-  going_hop : {n p a h f o out hop : ℕ} {r : EntryAt} → Tabled en ad ro → Going en ad ro ma s n p a h f o → EntrySought en p a h r → r ≡ entry.Entry out hop → Hop en ad ro ma s n p a h out hop
+  going_hop : {n p a h f o out hop : ℕ} {r : Option EntryOut} → Tabled en ad ro → Going en ad ro ma s n p a h f o → EntrySought en p a h r → r ≡ Some (entry_out out hop) → Hop en ad ro ma s n p a h out hop
   unfolding entry_found
   going_hop {n} {p} {a} {h} t g q e = record { reached = g.reached; found = looked t g.below q ∙ ap (entry_found p a h) e }
 
@@ -116,39 +101,39 @@ module _ (en ad ro ma : List ℕ) (s : Stand) where
   comes : (o : Outcome (Option (List EntryRow))) → walk_from (rows_of en ad ro ma) s ≡ o → bind o (λ z. value (leaves z)) ≡ bind (walk_from (rows_of en ad ro ma) s) (λ z. value (leaves z))
   comes o q = ap (λ (z : Outcome (Option (List EntryRow))). bind z (λ y. value (leaves y))) (sym q)
 
-  start_stops : {r : EntryAt} → Tabled en ad ro → s.place < 65536 → EntrySought en s.place s.adapter s.hop_id r → r ≡ entry.Missing → Answers en ad ro ma s (tally_outcome walked.Absent)
+  start_stops : {r : Option EntryOut} → Tabled en ad ro → s.place < 65536 → EntrySought en s.place s.adapter s.hop_id r → r ≡ None → Answers en ad ro ma s (tally_outcome (Ok None))
   unfolding entry_found hops_n settled path_of bind leaves tally_outcome
   start_stops t l q e =
       let w = reach_stops (walk_on (rows_of en ad ro ma)) s (reach_start (walk_on (rows_of en ad ro ma)) s) (looked t l q ∙ ap (entry_found s.place s.adapter s.hop_id) e) in
-      comes (value none) (walk_ends (rows_of en ad ro ma) s w.0 ∙ ap (settled []) w.1)
+      comes (value None) (walk_ends (rows_of en ad ro ma) s w.0 ∙ ap (settled []) w.1)
 
-  going_stops : {n p a h f o : ℕ} {r : EntryAt} → Tabled en ad ro → Going en ad ro ma s n p a h f o → EntrySought en p a h r → r ≡ entry.Missing → Answers en ad ro ma s (tally_outcome (walked.Path n f o h))
+  going_stops : {n p a h f o : ℕ} {r : Option EntryOut} → Tabled en ad ro → Going en ad ro ma s n p a h f o → EntrySought en p a h r → r ≡ None → Answers en ad ro ma s (tally_outcome (walked_to n f o h))
   unfolding entry_found settled bind leaves tally_outcome
   going_stops {n} {p} {a} {h} t g q e =
       let w = reach_stops (walk_on (rows_of en ad ro ma)) s g.reached (looked t g.below q ∙ ap (entry_found p a h) e) in
       let hs = hops_n (walk_on (rows_of en ad ro ma)) s n in
       ap value (sym g.leaving ∙ leaves_path hs) ∙ comes (value (path_of hs)) (walk_ends (rows_of en ad ro ma) s w.0 ∙ ap (settled hs) w.1)
 
-  hop_ring : {n p a h out hop : ℕ} → Hop en ad ro ma s n p a h out hop → n ≡ length en → Answers en ad ro ma s (tally_outcome (walked.Refused (refusal.Fault Endless)))
-  unfolding bind tally_outcome refused_by refusal_of rows_of rows_with
+  hop_ring : {n p a h out hop : ℕ} → Hop en ad ro ma s n p a h out hop → n ≡ length en → Answers en ad ro ma s (tally_outcome (Err (refusal.Fault Endless)))
+  unfolding bind tally_outcome refusal_of rows_of rows_with
   hop_ring {n} {p} {a} {h} g l =
       let x = rows_of en ad ro ma in
       let z : n ≡ valid_entries x = l ∙ sym (length-map en entry_word) in
       comes (refused 13 []) (walk_never x s (reach_never (walk_on x) (valid_entries x) (ranked x) s (subst (λ (m : ℕ). Reached (walk_on x) s m (at p a h)) z g.reached) g.found))
 
   -- where the hop leads
-  turn : {n p a h out hop : ℕ} {w : Next} → Tabled en ad ro → Hop en ad ro ma s n p a h out hop → LeadsTo ad ro ma (λ x. leads x p out) w → (o : Outcome Way) → next_outcome w ≡ o
+  turn : {n p a h out hop : ℕ} {w : Result Next Refusal} → Tabled en ad ro → Hop en ad ro ma s n p a h out hop → LeadsTo ad ro ma (λ x. leads x p out) w → (o : Outcome Way) → next_outcome w ≡ o
       → (walk_on (rows_of en ad ro ma)).next (at p a h) (hop_row p a h out hop) ≡ turn_by (hop_row p a h out hop) o
   unfolding walk_on rows_of
   turn t g q o e = ap (turn_by _) (sym (q.leads_to (in_order t) (entries_in en)) ∙ e)
 
-  leaving_next : {n p a h out hop : ℕ} → Hop en ad ro ma s n p a h out hop → leaving_of (hops_n (walk_on (rows_of en ad ro ma)) s (n + 1)) ≡ some (record { hops = n + 1; place = p; adapter = out; hop_id = hop })
+  leaving_next : {n p a h out hop : ℕ} → Hop en ad ro ma s n p a h out hop → leaving_of (hops_n (walk_on (rows_of en ad ro ma)) s (n + 1)) ≡ Some (record { hops = n + 1; place = p; adapter = out; hop_id = hop })
   unfolding leaving_by
   leaving_next {n} {p} {a} {h} {out} {hop} g =
       let W = walk_on (rows_of en ad ro ma) in
-      ap leaving_of (reach_hops W s g.reached g.found) ∙ leaving_more (hops_n W s n) (hop_row p a h out hop) ∙ ap (λ (m : ℕ). some (leaving_by (m + 1) (hop_row p a h out hop))) (length_hops W s n g.reached.hops)
+      ap leaving_of (reach_hops W s g.reached g.found) ∙ leaving_more (hops_n W s n) (hop_row p a h out hop) ∙ ap (λ (m : ℕ). Some (leaving_by (m + 1) (hop_row p a h out hop))) (length_hops W s n g.reached.hops)
 
-  hop_on : {n p a h out hop q b : ℕ} {w : Next} → Tabled en ad ro → Hop en ad ro ma s n p a h out hop → LeadsTo ad ro ma (λ x. leads x p out) w → w ≡ next.On q b → Going en ad ro ma s (n + 1) q b hop p out
+  hop_on : {n p a h out hop q b : ℕ} {w : Result Next Refusal} → Tabled en ad ro → Hop en ad ro ma s n p a h out hop → LeadsTo ad ro ma (λ x. leads x p out) w → w ≡ Ok (next.On q b) → Going en ad ro ma s (n + 1) q b hop p out
   unfolding next_outcome turn_by
   hop_on {n} {p} {a} {h} {out} {hop} {q} {b} t g l e = record {
     reached = reach_on (walk_on (rows_of en ad ro ma)) s g.reached g.found (turn t g l (value (on q b)) (ap next_outcome e));
@@ -157,51 +142,51 @@ module _ (en ad ro ma : List ℕ) (s : Stand) where
   }
 
   -- a hop that ends the walk
-  hop_ends : {n p a h out hop : ℕ} {w : Next} → Tabled en ad ro → Hop en ad ro ma s n p a h out hop → LeadsTo ad ro ma (λ x. leads x p out) w → (o : Outcome Way) → next_outcome w ≡ o → (z : End)
+  hop_ends : {n p a h out hop : ℕ} {w : Result Next Refusal} → Tabled en ad ro → Hop en ad ro ma s n p a h out hop → LeadsTo ad ro ma (λ x. leads x p out) w → (o : Outcome Way) → next_outcome w ≡ o → (z : End)
       → turn_by (hop_row p a h out hop) o ≡ comes-to z → walk_from (rows_of en ad ro ma) s ≡ settled (hops_n (walk_on (rows_of en ad ro ma)) s (n + 1)) (ended z)
   hop_ends t g l o e z q =
       let x = rows_of en ad ro ma in
       let v = reach_ends (walk_on x) s g.reached g.found (turn t g l o e ∙ q) in
       walk_ends x s v.0 ∙ ap (settled _) v.1
 
-  hop_last : {n p a h out hop : ℕ} {w : Next} → Tabled en ad ro → Hop en ad ro ma s n p a h out hop → LeadsTo ad ro ma (λ x. leads x p out) w → w ≡ next.Last → Answers en ad ro ma s (tally_outcome (walked.Path (n + 1) p out hop))
+  hop_last : {n p a h out hop : ℕ} {w : Result Next Refusal} → Tabled en ad ro → Hop en ad ro ma s n p a h out hop → LeadsTo ad ro ma (λ x. leads x p out) w → w ≡ (Ok next.Last) → Answers en ad ro ma s (tally_outcome (walked_to (n + 1) p out hop))
   unfolding next_outcome turn_by settled bind leaves tally_outcome
   hop_last {n} t g l e =
       let hs = hops_n (walk_on (rows_of en ad ro ma)) s (n + 1) in
-      ap value (sym (leaving_next g)) ∙ comes (value (some hs)) (hop_ends t g l (value last) (ap next_outcome e) path refl)
+      ap value (sym (leaving_next g)) ∙ comes (value (Some hs)) (hop_ends t g l (value last) (ap next_outcome e) path refl)
 
-  hop_dropped : {n p a h out hop : ℕ} {w : Next} → Tabled en ad ro → Hop en ad ro ma s n p a h out hop → LeadsTo ad ro ma (λ x. leads x p out) w → w ≡ next.Dropped → Answers en ad ro ma s (tally_outcome walked.Absent)
+  hop_dropped : {n p a h out hop : ℕ} {w : Result Next Refusal} → Tabled en ad ro → Hop en ad ro ma s n p a h out hop → LeadsTo ad ro ma (λ x. leads x p out) w → w ≡ (Ok next.Dropped) → Answers en ad ro ma s (tally_outcome (Ok None))
   unfolding next_outcome turn_by settled bind leaves tally_outcome
-  hop_dropped t g l e = comes (value none) (hop_ends t g l (value dropped) (ap next_outcome e) no_path refl)
+  hop_dropped t g l e = comes (value None) (hop_ends t g l (value dropped) (ap next_outcome e) no_path refl)
 
-  hop_refused : {n p a h out hop : ℕ} {w : Next} {r : Refusal} → Tabled en ad ro → Hop en ad ro ma s n p a h out hop → LeadsTo ad ro ma (λ x. leads x p out) w → w ≡ next.Refused r → Answers en ad ro ma s (tally_outcome (walked.Refused r))
+  hop_refused : {n p a h out hop : ℕ} {w : Result Next Refusal} {r : Refusal} → Tabled en ad ro → Hop en ad ro ma s n p a h out hop → LeadsTo ad ro ma (λ x. leads x p out) w → w ≡ Err r → Answers en ad ro ma s (tally_outcome (Err r))
   unfolding next_outcome turn_by settled bind tally_outcome
   hop_refused {r = r} t g l e =
-      let v = refusal_is r in
+      let v = numbered Way r in
       refusal_also r v.0 v.1 v.2 ∙ comes (refused v.0 v.1) (hop_ends t g l (refused v.0 v.1) (ap next_outcome e ∙ v.2) (fault v.0 v.1) refl)
 
 -- ---- what is returned
 
 hops_only : Option Leaving → Outcome (Option ℕ)
-hops_only none = value none
-hops_only (some l) = value (some l.hops)
+hops_only None = value None
+hops_only (Some l) = value (Some l.hops)
 
-hops_alone : (r : Walked) → hops_outcome r ≡ bind (tally_outcome r) hops_only
+hops_alone : (r : Result (Option Walked) Refusal) → hops_outcome r ≡ bind (tally_outcome r) hops_only
 unfolding hops_outcome tally_outcome bind hops_only
-hops_alone (walked.Path n q a h) = refl
-hops_alone walked.Absent = refl
-hops_alone (walked.Refused r) = sym (refused_bind r hops_only)
+hops_alone (Ok (Some w)) = refl
+hops_alone (Ok None) = refl
+hops_alone (Err r) = sym (refused_bind r hops_only)
 
 -- the number of hops is the path's, which has one
 hops_room : (x : Rows) (s : Stand) (o : Outcome (Option (List EntryRow))) → walk_from x s ≡ o → bind (bind o (λ z. value (leaves z))) hops_only ≡ bind o (in_room no_need 0)
 unfolding bind leaves leaving_of leaving_by hops_only in_room no_need
 hops_room x s (refused k vs) q = refl
-hops_room x s (value none) q = refl
-hops_room x s (value (some [])) q = absurd (let w = hopped x s [] q in omega (arith, w.one, w.long))
-hops_room x s (value (some (h ∷ hs))) q = refl
+hops_room x s (value None) q = refl
+hops_room x s (value (Some [])) q = absurd (let w = hopped x s [] q in omega (arith, w.one, w.long))
+hops_room x s (value (Some (h ∷ hs))) q = refl
 
-tallied : (en ad ro ma : List ℕ) (s : Stand) (r : Walked) → (Tabled en ad ro → s.place < 65536 → Answers en ad ro ma s (tally_outcome r))
-    → (65535 < s.place → r ≡ walked.Absent) → hops_by r ≤ length en → is_path r ≡ ltb 0 (hops_by r) → Tallied en ad ro ma s r
+tallied : (en ad ro ma : List ℕ) (s : Stand) (r : Result (Option Walked) Refusal) → (Tabled en ad ro → s.place < 65536 → Answers en ad ro ma s (tally_outcome r))
+    → (65535 < s.place → r ≡ (Ok None)) → hops_by r ≤ length en → is_path r ≡ ltb 0 (hops_by r) → Tallied en ad ro ma s r
 unfolding bind leaves rows_of
 tallied en ad ro ma s r answers past few one = record {
   answers = answers;
@@ -228,14 +213,14 @@ record Hopping (en ad ro ma : List ℕ) (s : Stand) (n p out hop : ℕ) : Type 0
 
 module _ (en ad ro ma : List ℕ) (s : Stand) where
   -- an entry is found only where a key has room for the place
-  start_near : {o h : ℕ} → EntrySought en s.place s.adapter s.hop_id (entry.Entry o h) → s.place < 65536
+  start_near : {o h : ℕ} → EntrySought en s.place s.adapter s.hop_id (Some (entry_out o h)) → s.place < 65536
   start_near {o} {h} q = go (dec_lt s.place 65536)
     where
       go : Dec (s.place < 65536) → s.place < 65536
       go (yes l) = l
-      go (no l) = absurd (let w : entry.Entry o h ≡ entry.Missing = q.past (omega arith) in let z : ◌≡◌ {A = ℕ} 0 1 = cc in omega arith)
+      go (no l) = absurd (let w : Some (entry_out o h) ≡ None = q.past (omega arith) in let z : ◌≡◌ {A = ℕ} 0 1 = cc in omega arith)
 
-  hopping_start : {o h : ℕ} → EntrySought en s.place s.adapter s.hop_id (entry.Entry o h) → Hopping en ad ro ma s 0 s.place o h
+  hopping_start : {o h : ℕ} → EntrySought en s.place s.adapter s.hop_id (Some (entry_out o h)) → Hopping en ad ro ma s 0 s.place o h
   unfolding entry_found
   hopping_start q = record {
     few = omega arith;
@@ -245,63 +230,63 @@ module _ (en ad ro ma : List ℕ) (s : Stand) where
     made = λ t. record { reached = reach_start (walk_on (rows_of en ad ro ma)) s; found = looked en ad ro ma s t (start_near q) q };
   }
 
-  hopping_on : {n p o h q b o' h' : ℕ} {w : Next} {r : EntryAt} → Hopping en ad ro ma s n p o h → n < length en → LeadsTo ad ro ma (λ x. leads x p o) w → w ≡ next.On q b → EntrySought en q b h r → r ≡ entry.Entry o' h'
+  hopping_on : {n p o h q b o' h' : ℕ} {w : Result Next Refusal} {r : Option EntryOut} → Hopping en ad ro ma s n p o h → n < length en → LeadsTo ad ro ma (λ x. leads x p o) w → w ≡ Ok (next.On q b) → EntrySought en q b h r → r ≡ Some (entry_out o' h')
       → Hopping en ad ro ma s (n + 1) q o' h'
   hopping_on {h = h} {b = b} k m l e f g =
       record { few = omega arith; near = k.near; adapter = b; hop_id = h; made = λ t. going_hop en ad ro ma s t (hop_on en ad ro ma s t (k.made t) l e) f g }
 
-  tallied_path : {n p o h : ℕ} → s.place < 65536 → n < length en → (Tabled en ad ro → Answers en ad ro ma s (tally_outcome (walked.Path (n + 1) p o h))) → Tallied en ad ro ma s (walked.Path (n + 1) p o h)
+  tallied_path : {n p o h : ℕ} → s.place < 65536 → n < length en → (Tabled en ad ro → Answers en ad ro ma s (tally_outcome (walked_to (n + 1) p o h))) → Tallied en ad ro ma s (walked_to (n + 1) p o h)
   unfolding hops_by is_path
   tallied_path {n} l m q = tallied en ad ro ma s _ (λ t z. q t) (λ z. absurd (omega arith)) (omega arith) (sym (lt-ltb 0 (n + 1) (omega arith)))
 
-  tallied_refused : {r : Refusal} → s.place < 65536 → (Tabled en ad ro → Answers en ad ro ma s (tally_outcome (walked.Refused r))) → Tallied en ad ro ma s (walked.Refused r)
+  tallied_refused : {r : Refusal} → s.place < 65536 → (Tabled en ad ro → Answers en ad ro ma s (tally_outcome (Err r))) → Tallied en ad ro ma s (Err r)
   unfolding hops_by is_path
   tallied_refused l q = tallied en ad ro ma s _ (λ t z. q t) (λ z. absurd (omega arith)) (omega arith) refl
 
-  tallied_absent : (Tabled en ad ro → s.place < 65536 → Answers en ad ro ma s (tally_outcome walked.Absent)) → Tallied en ad ro ma s walked.Absent
+  tallied_absent : (Tabled en ad ro → s.place < 65536 → Answers en ad ro ma s (tally_outcome (Ok None))) → Tallied en ad ro ma s (Ok None)
   unfolding hops_by is_path
   tallied_absent q = tallied en ad ro ma s _ q (λ l. refl) (omega arith) refl
 
-  pub absent : {r : EntryAt} → EntrySought en s.place s.adapter s.hop_id r → r ≡ entry.Missing → Tallied en ad ro ma s walked.Absent
+  pub absent : {r : Option EntryOut} → EntrySought en s.place s.adapter s.hop_id r → r ≡ None → Tallied en ad ro ma s (Ok None)
   absent q e = tallied_absent (λ t l. start_stops en ad ro ma s t l q e)
 
-  pub walks_on : {o h : ℕ} {r : EntryAt} {v : Walked} → EntrySought en s.place s.adapter s.hop_id r → r ≡ entry.Entry o h → Onward en ad ro ma s.place o h v → Tallied en ad ro ma s v
-  walks_on q e w = w.ends s.adapter s.hop_id (subst (λ (r : EntryAt). EntrySought en s.place s.adapter s.hop_id r) e q)
+  pub walks_on : {o h : ℕ} {r : Option EntryOut} {v : Result (Option Walked) Refusal} → EntrySought en s.place s.adapter s.hop_id r → r ≡ Some (entry_out o h) → Onward en ad ro ma s.place o h v → Tallied en ad ro ma s v
+  walks_on q e w = w.ends s.adapter s.hop_id (subst (λ (r : Option EntryOut). EntrySought en s.place s.adapter s.hop_id r) e q)
 
 -- ---- what the loop keeps: every walk that makes the hop it began with has come to the hop where it is
 
 pub record Kept (en ad ro ma : List ℕ) (p₀ o₀ h₀ n p o h : ℕ) : Type 0 where
-  going : (a k : ℕ) → EntrySought en p₀ a k (entry.Entry o₀ h₀) → Hopping en ad ro ma (at p₀ a k) n p o h
+  going : (a k : ℕ) → EntrySought en p₀ a k (Some (entry_out o₀ h₀)) → Hopping en ad ro ma (at p₀ a k) n p o h
 
 module _ (en ad ro ma : List ℕ) {p₀ o₀ h₀ : ℕ} where
   pub kept_start : Kept en ad ro ma p₀ o₀ h₀ 0 p₀ o₀ h₀
   kept_start = record { going = λ a k q. hopping_start en ad ro ma (at p₀ a k) q }
 
   -- a path has a hop
-  path_by_lem : {n p o h : ℕ} → n < length en → ((a k : ℕ) → EntrySought en p₀ a k (entry.Entry o₀ h₀) → Tallied en ad ro ma (at p₀ a k) (walked.Path (n + 1) p o h)) → Onward en ad ro ma p₀ o₀ h₀ (walked.Path (n + 1) p o h)
+  path_by_lem : {n p o h : ℕ} → n < length en → ((a k : ℕ) → EntrySought en p₀ a k (Some (entry_out o₀ h₀)) → Tallied en ad ro ma (at p₀ a k) (walked_to (n + 1) p o h)) → Onward en ad ro ma p₀ o₀ h₀ (walked_to (n + 1) p o h)
   unfolding hops_by is_path
   path_by_lem {n} m e = record { ends = e; few = omega arith; one = sym (lt-ltb 0 (n + 1) (omega arith)) }
 
-  refused_by_lem : {r : Refusal} → ((a k : ℕ) → EntrySought en p₀ a k (entry.Entry o₀ h₀) → Tallied en ad ro ma (at p₀ a k) (walked.Refused r)) → Onward en ad ro ma p₀ o₀ h₀ (walked.Refused r)
+  refused_by_lem : {r : Refusal} → ((a k : ℕ) → EntrySought en p₀ a k (Some (entry_out o₀ h₀)) → Tallied en ad ro ma (at p₀ a k) (Err r)) → Onward en ad ro ma p₀ o₀ h₀ (Err r)
   unfolding hops_by is_path
   refused_by_lem e = record { ends = e; few = omega arith; one = refl }
 
-  pub kept_ring : {n p o h : ℕ} → Kept en ad ro ma p₀ o₀ h₀ n p o h → length en ≤ n → Onward en ad ro ma p₀ o₀ h₀ (walked.Refused (refusal.Fault Endless))
+  pub kept_ring : {n p o h : ℕ} → Kept en ad ro ma p₀ o₀ h₀ n p o h → length en ≤ n → Onward en ad ro ma p₀ o₀ h₀ (Err (refusal.Fault Endless))
   kept_ring g m = refused_by_lem (λ a k q. let j = g.going a k q in tallied_refused en ad ro ma _ j.near (λ t. hop_ring en ad ro ma _ (j.made t) (omega (arith, j.few))))
 
-  module _ {n p o h : ℕ} {w : Next} (g : Kept en ad ro ma p₀ o₀ h₀ n p o h) (m : n < length en) (l : LeadsTo ad ro ma (λ x. leads x p o) w) where
-    pub kept_last : w ≡ next.Last → Onward en ad ro ma p₀ o₀ h₀ (walked.Path (n + 1) p o h)
+  module _ {n p o h : ℕ} {w : Result Next Refusal} (g : Kept en ad ro ma p₀ o₀ h₀ n p o h) (m : n < length en) (l : LeadsTo ad ro ma (λ x. leads x p o) w) where
+    pub kept_last : w ≡ (Ok next.Last) → Onward en ad ro ma p₀ o₀ h₀ (walked_to (n + 1) p o h)
     kept_last e = path_by_lem m (λ a k q. let j = g.going a k q in tallied_path en ad ro ma _ j.near m (λ t. hop_last en ad ro ma _ t (j.made t) l e))
 
-    pub kept_dropped : w ≡ next.Dropped → Onward en ad ro ma p₀ o₀ h₀ walked.Absent
+    pub kept_dropped : w ≡ (Ok next.Dropped) → Onward en ad ro ma p₀ o₀ h₀ (Ok None)
     unfolding hops_by is_path
     kept_dropped e = record { ends = λ a k q. tallied_absent en ad ro ma _ (λ t z. hop_dropped en ad ro ma _ t ((g.going a k q).made t) l e); few = omega arith; one = refl }
 
-    pub kept_refused : {r : Refusal} → w ≡ next.Refused r → Onward en ad ro ma p₀ o₀ h₀ (walked.Refused r)
+    pub kept_refused : {r : Refusal} → w ≡ Err r → Onward en ad ro ma p₀ o₀ h₀ (Err r)
     kept_refused e = refused_by_lem (λ a k q. let j = g.going a k q in tallied_refused en ad ro ma _ j.near (λ t. hop_refused en ad ro ma _ t (j.made t) l e))
 
-    pub kept_stops : {q b : ℕ} {r : EntryAt} → w ≡ next.On q b → EntrySought en q b h r → r ≡ entry.Missing → Onward en ad ro ma p₀ o₀ h₀ (walked.Path (n + 1) p o h)
+    pub kept_stops : {q b : ℕ} {r : Option EntryOut} → w ≡ Ok (next.On q b) → EntrySought en q b h r → r ≡ None → Onward en ad ro ma p₀ o₀ h₀ (walked_to (n + 1) p o h)
     kept_stops e f z = path_by_lem m (λ a k q. let j = g.going a k q in tallied_path en ad ro ma _ j.near m (λ t. going_stops en ad ro ma _ t (hop_on en ad ro ma _ t (j.made t) l e) f z))
 
-    pub kept_on : {q b o' h' : ℕ} {r : EntryAt} → w ≡ next.On q b → EntrySought en q b h r → r ≡ entry.Entry o' h' → Kept en ad ro ma p₀ o₀ h₀ (n + 1) q o' h'
+    pub kept_on : {q b o' h' : ℕ} {r : Option EntryOut} → w ≡ Ok (next.On q b) → EntrySought en q b h r → r ≡ Some (entry_out o' h') → Kept en ad ro ma p₀ o₀ h₀ (n + 1) q o' h'
     kept_on e f z = record { going = λ a k q. hopping_on en ad ro ma _ (g.going a k q) m l e f z }

@@ -1,6 +1,5 @@
 -- What a walk comes to, and the rule that every call for a single walk keeps. Assumes nothing.
-use Rattle.std.specs.Prelude.{ℕ, ◌≤◌, ◌<◌, ◌≡◌, ◌↔◌, ◌⊎◌, Bool, true, cond, ◌||◌, List, [], ◌∷◌, ltb, eqb, length, get_or}
-use Rattle.std.proofs.Math.Option.{Option, none, some}
+use Rattle.std.specs.Prelude.{ℕ, ◌≤◌, ◌<◌, ◌≡◌, ◌↔◌, ◌⊎◌, Bool, true, cond, ◌||◌, List, [], ◌∷◌, ltb, eqb, length, get_or, Option, None, Some}
 use Rattle.refusal.specs.Outcome.{Outcome, refused, value, bind}
 use Rattle.tables.specs.Rows.{EntryRow, Rows}
 use Rattle.orbit.specs.Walk.{Spot, Spot.stand, Spot.ended, Spot.stopped, walk_n, hops_n, EndsAfter, Never, Again}
@@ -10,8 +9,8 @@ use Rattle.walk.specs.Walking.{Stand, End, End.path, End.no_path, End.fault, wal
 -- what the hops so far and where the walk is come to; 13 where there is still a hop to make
 unfoldable pub settled : List EntryRow → Spot Stand End → Outcome (Option (List EntryRow))
 settled hs (stand s) = refused 13 []
-settled hs (ended path) = value (some hs)
-settled hs (ended no_path) = value none
+settled hs (ended path) = value (Some hs)
+settled hs (ended no_path) = value None
 settled hs (ended (fault k vs)) = refused k vs
 settled hs stopped = value (path_of hs)
 
@@ -21,8 +20,8 @@ walk_from x s = settled (hops_n (walk_on x) s (valid_entries x)) (walk_n (walk_o
 
 -- 2 last, with what is needed; no path needs nothing
 unfoldable pub in_room : (List EntryRow → ℕ) → ℕ → Option (List EntryRow) → Outcome (Option ℕ)
-in_room need room none = value none
-in_room need room (some hs) = cond (ltb room (need hs)) (refused 2 (need hs ∷ [])) (value (some (length hs)))
+in_room need room None = value None
+in_room need room (Some hs) = cond (ltb room (need hs)) (refused 2 (need hs ∷ [])) (value (Some (length hs)))
 
 -- where a hop was made
 unfoldable pub stand_of : EntryRow → Stand
@@ -49,7 +48,7 @@ pub record WalkRule (x : Rows) (s : Stand) (need : List EntryRow → ℕ) (room 
   -- the refusal is 6, 10, 11 or 12
   pub faults : (n k : ℕ) (vs : List ℕ) → walk_n (walk_on x) s n ≡ ended (fault k vs) → walk_fault k ≡ true
   -- a path is the walk's, and is written
-  pub path : (n : ℕ) → o ≡ value (some n) → PathRule x s n × Wrote (hops_n (walk_on x) s n)
+  pub path : (n : ℕ) → o ≡ value (Some n) → PathRule x s n × Wrote (hops_n (walk_on x) s n)
   -- 13 exactly when it never ends, and exactly when it comes a second time to the same place, adapter and HopID
   pub never : (o ≡ refused 13 []) ↔ Never (walk_on x) s
   pub again : (o ≡ refused 13 []) ↔ Again (walk_on x) s

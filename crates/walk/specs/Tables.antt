@@ -1,17 +1,17 @@
 -- The walk on tables: its number of hops, and by what it leaves. Assumes nothing.
-use Rattle.std.specs.Prelude.{ℕ, suc, ◌≤◌, ◌<◌, ◌≡◌, Bool, true, false, List, [], ◌∷◌, ltb, length}
-use Rattle.std.proofs.Math.Option.{Option, none, some}
+use Rattle.std.specs.Prelude.{ℕ, suc, ◌≤◌, ◌<◌, ◌≡◌, Bool, true, false, List, [], ◌∷◌, ltb, length, Option, None, Some, Ok, Err, Result}
 use Rattle.refusal.specs.Outcome.{Outcome, value, bind}
 use Rattle.tables.specs.Rows.{EntryRow, DeviceRow, Rows}
 use Rattle.tables.specs.Packed.{entries_in, entry_unit, adapter_unit, Sorted}
 use Rattle.tables.specs.Found.{EntrySought}
-use Rattle.tables.specs.declared.EntryAt.TheVariants as entry
-use Rattle.load.specs.Answers.{refused_by, asked_device}
+use Rattle.load.specs.Answers.{asked_device}
+use Rattle.refusal.specs.Refusal.{refused_by}
 use Rattle.fabric.specs.Tables.{rows_with}
 use Rattle.walk.specs.Walking.{Stand}
 use Rattle.walk.specs.Rule.{walk_from, WalkRule}
+use Rattle.adapter.specs.Paths.{entry_out}
 use Rattle.walk.specs.declared.Walked.{Walked}
-use Rattle.walk.specs.declared.Walked.TheVariants as walked
+use Rattle.refusal.specs.declared.Refusal.{Refusal}
 
 -- the rows that tables hold
 unfoldable pub rows_of : List ℕ → List ℕ → List ℕ → List ℕ → Rows
@@ -39,42 +39,45 @@ leaving_by n e = record { hops = n; place = e.device; adapter = e.out_adapter; h
 
 -- a path has a hop
 unfoldable pub leaving_of : List EntryRow → Option Leaving
-leaving_of [] = none
-leaving_of (h ∷ hs) = some (leaving_by (suc (length hs)) (last_of h hs))
+leaving_of [] = None
+leaving_of (h ∷ hs) = Some (leaving_by (suc (length hs)) (last_of h hs))
 
 unfoldable pub leaves : Option (List EntryRow) → Option Leaving
-leaves none = none
-leaves (some hs) = leaving_of hs
+leaves None = None
+leaves (Some hs) = leaving_of hs
 
 -- document 01's number and values for what is answered, with the path's end, and with its number of hops alone
-unfoldable pub tally_outcome : Walked → Outcome (Option Leaving)
-tally_outcome (walked.Path n q a h) = value (some (record { hops = n; place = q; adapter = a; hop_id = h }))
-tally_outcome walked.Absent = value none
-tally_outcome (walked.Refused r) = refused_by r
+abbrev pub walked_to : ℕ → ℕ → ℕ → ℕ → Result (Option Walked) Refusal
+walked_to n q a h = Ok (Some (record { hops = n; place = q; adapter = a; hop = h }))
 
-unfoldable pub hops_outcome : Walked → Outcome (Option ℕ)
-hops_outcome (walked.Path n q a h) = value (some n)
-hops_outcome walked.Absent = value none
-hops_outcome (walked.Refused r) = refused_by r
+unfoldable pub tally_outcome : Result (Option Walked) Refusal → Outcome (Option Leaving)
+tally_outcome (Ok (Some w)) = value (Some (record { hops = w.hops; place = w.place; adapter = w.adapter; hop_id = w.hop }))
+tally_outcome (Ok None) = value None
+tally_outcome (Err r) = refused_by r
 
-unfoldable pub hops_by : Walked → ℕ
-hops_by (walked.Path n q a h) = n
-hops_by walked.Absent = 0
-hops_by (walked.Refused r) = 0
+unfoldable pub hops_outcome : Result (Option Walked) Refusal → Outcome (Option ℕ)
+hops_outcome (Ok (Some w)) = value (Some w.hops)
+hops_outcome (Ok None) = value None
+hops_outcome (Err r) = refused_by r
 
-unfoldable pub is_path : Walked → Bool
-is_path (walked.Path n q a h) = true
-is_path walked.Absent = false
-is_path (walked.Refused r) = false
+unfoldable pub hops_by : Result (Option Walked) Refusal → ℕ
+hops_by (Ok (Some w)) = w.hops
+hops_by (Ok None) = 0
+hops_by (Err r) = 0
+
+unfoldable pub is_path : Result (Option Walked) Refusal → Bool
+is_path (Ok (Some w)) = true
+is_path (Ok None) = false
+is_path (Err r) = false
 
 -- nothing is written, so nothing is needed
 unfoldable pub no_need : List EntryRow → ℕ
 no_need hs = 0
 
 -- In tables in order it is how the walk ends. In any others it is free, but that a path has a hop, and no more than there are entries.
-pub record Tallied (en ad ro ma : List ℕ) (s : Stand) (r : Walked) : Type 0 where
+pub record Tallied (en ad ro ma : List ℕ) (s : Stand) (r : Result (Option Walked) Refusal) : Type 0 where
   pub answers : Tabled en ad ro → s.place < 65536 → tally_outcome r ≡ bind (walk_from (rows_of en ad ro ma) s) (λ o. value (leaves o))
-  pub past : 65535 < s.place → r ≡ walked.Absent
+  pub past : 65535 < s.place → r ≡ (Ok None)
   pub few : hops_by r ≤ length en
   pub one : is_path r ≡ ltb 0 (hops_by r)
   -- every start at a device that is there
@@ -82,7 +85,7 @@ pub record Tallied (en ad ro ma : List ℕ) (s : Stand) (r : Walked) : Type 0 wh
       → WalkRule (rows_of en ad ro ma) s no_need 0 (λ hs. tally_outcome r ≡ value (leaving_of hs)) (hops_outcome r)
 
 -- How each walk ends that starts at the device at place p and finds there an entry with this out adapter and out HopID. Where no walk finds such an entry it is free, but that a path has a hop, and no more than there are entries.
-pub record Onward (en ad ro ma : List ℕ) (p out hop : ℕ) (r : Walked) : Type 0 where
-  pub ends : (a h : ℕ) → EntrySought en p a h (entry.Entry out hop) → Tallied en ad ro ma (record { place = p; adapter = a; hop_id = h }) r
+pub record Onward (en ad ro ma : List ℕ) (p out hop : ℕ) (r : Result (Option Walked) Refusal) : Type 0 where
+  pub ends : (a h : ℕ) → EntrySought en p a h (Some (entry_out out hop)) → Tallied en ad ro ma (record { place = p; adapter = a; hop_id = h }) r
   pub few : hops_by r ≤ length en
   pub one : is_path r ≡ ltb 0 (hops_by r)

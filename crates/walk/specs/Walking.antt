@@ -1,6 +1,5 @@
 -- Document 01, module 7: the walk from a device place, adapter and HopID, hop by hop. Assumes nothing.
-use Rattle.std.specs.Prelude.{ℕ, List, [], ◌∷◌}
-use Rattle.std.proofs.Math.Option.{Option, none, some}
+use Rattle.std.specs.Prelude.{Option, None, Some, ℕ, List, [], ◌∷◌}
 use Rattle.refusal.specs.Outcome.{Outcome, refused, value}
 use Rattle.tables.specs.Rows.{EntryRow, Rows, entry_in}
 use Rattle.orbit.specs.Walk.{Turn, Turn.on as goes_on, Turn.ends as comes-to, Walk}
@@ -34,5 +33,5 @@ walk_on x = record {
 
 -- no entry at the start is no path; after a hop, a good path of the hops so far
 unfoldable pub path_of : List EntryRow → Option (List EntryRow)
-path_of [] = none
-path_of (h ∷ hs) = some (h ∷ hs)
+path_of [] = None
+path_of (h ∷ hs) = Some (h ∷ hs)

@@ -4,21 +4,15 @@
 ghost use Rattle.walk.specs.Tables.{Tallied, Onward};
 
 use fabric::Next;
-use load::Refusal;
-use refusal::Fault;
-use tables::EntryAt;
+use refusal::{Fault, Refusal};
 
-// A path's number of hops with its last hop's place, out adapter and out HopID; no path; or what refuses it.
+// A path's number of hops with its last hop's place, out adapter and out HopID.
 #[derive(Clone, Copy)]
-pub enum Walked {
-    Path {
-        hops: usize,
-        place: usize,
-        adapter: u8,
-        hop: u16,
-    },
-    Absent,
-    Refused(Refusal),
+pub struct Walked {
+    pub hops: usize,
+    pub place: usize,
+    pub adapter: u8,
+    pub hop: u16,
 }
 
 // How a walk ends whose first hop leaves the device at a place by an out adapter and HopID. A walk that is still going after as many hops as there are entries never ends.
@@ -30,7 +24,7 @@ pub fn onward(
     place: usize,
     out_adapter: u8,
     out_hop: u16,
-) -> Walked
+) -> Result<Option<Walked>, Refusal>
     ensures { Onward entries.now adapters.now routes.now marks.now place out_adapter out_hop result }
 {
     let mut left = entries.len();
@@ -40,44 +34,38 @@ pub fn onward(
     let mut h = out_hop;
     loop {
         if left < 1 {
-            return Walked::Refused(Refusal::Fault(Fault::Endless));
+            return Err(Refusal::Fault(Fault::Endless));
         }
         left -= 1;
         hops += 1;
-        match fabric::leads(adapters, routes, marks, p, out) {
+        let next = fabric::leads(adapters, routes, marks, p, out)?;
+        match next {
             Next::On {
                 place: q,
                 adapter: b,
             } => {
-                let EntryAt::Entry {
-                    out_adapter: o,
-                    out_hop: k,
-                } = search::find_entry(entries, q, b, h)
-                else {
-                    return Walked::Path {
+                let Some(entry) = search::find_entry(entries, q, b, h) else {
+                    return Ok(Some(Walked {
                         hops,
                         place: p,
                         adapter: out,
                         hop: h,
-                    };
+                    }));
                 };
                 p = q;
-                out = o;
-                h = k;
+                out = entry.out_adapter;
+                h = entry.out_hop;
             }
             Next::Last => {
-                return Walked::Path {
+                return Ok(Some(Walked {
                     hops,
                     place: p,
                     adapter: out,
                     hop: h,
-                };
+                }));
             }
             Next::Dropped => {
-                return Walked::Absent;
-            }
-            Next::Refused(refusal) => {
-                return Walked::Refused(refusal);
+                return Ok(None);
             }
         }
     }
@@ -92,7 +80,7 @@ fn go_on(
     place: usize,
     out_adapter: u8,
     out_hop: u16,
-) -> Walked
+) -> Result<Option<Walked>, Refusal>
     ensures { Onward entries.now adapters.now routes.now marks.now place out_adapter out_hop result }
 {
     onward(
@@ -115,15 +103,11 @@ pub fn tally(
     place: usize,
     adapter: u8,
     hop: u16,
-) -> Walked
+) -> Result<Option<Walked>, Refusal>
     ensures { Tallied entries.now adapters.now routes.now marks.now (record { place = place; adapter = adapter; hop_id = hop }) result }
 {
-    let EntryAt::Entry {
-        out_adapter,
-        out_hop,
-    } = search::find_entry(entries, place, adapter, hop)
-    else {
-        return Walked::Absent;
+    let Some(entry) = search::find_entry(entries, place, adapter, hop) else {
+        return Ok(None);
     };
     go_on(
         entries,
@@ -131,7 +115,7 @@ pub fn tally(
         routes,
         marks,
         place,
-        out_adapter,
-        out_hop,
+        entry.out_adapter,
+        entry.out_hop,
     )
 }

@@ -3,7 +3,7 @@ use Prim.Native.Nat.{ℕ, ◌<◌}
 use mathlib.Core.Bool.{Bool, true, false, true≢false}
 use mathlib.Core.Path.{◌≡◌, refl, sym, ap, ◌∙◌, subst}
 use mathlib.Core.List.{List, []}
-use mathlib.Core.Option.{Option, none, some}
+use Rattle.std.specs.Prelude.{Option, None, Some, Err, Result}
 use native.Mathlib.Omega.{arith}
 use lib.ListN.{length, take}
 use lib.Seq.{length-take-le}
@@ -12,22 +12,23 @@ use Rattle.adapter.specs.Adapter.{AdapterRow}
 use Rattle.tables.specs.Rows.{EntryRow, DeviceRow, Rows, adapter_in, device_in}
 use Rattle.tables.specs.Packed.{adapters_in, devices_in}
 use Rattle.load.specs.Loading.{loaded}
-use Rattle.load.specs.Answers.{refused_by, loaded_rows, Usable, present, asked_device, asked_adapter}
-use Rattle.load.specs.declared.Refusal.{Refusal}
-use Rattle.load.specs.declared.Refusal.TheVariants as refusal
+use Rattle.load.specs.Answers.{loaded_rows, Usable, present, asked_device, asked_adapter}
+use Rattle.refusal.specs.Refusal.{refused_by}
+use Rattle.refusal.specs.declared.Refusal.{Refusal}
+use Rattle.refusal.specs.declared.Refusal.TheVariants as refusal
 use Rattle.load.specs.declared.Loaded.{Loaded}
-use Rattle.load.specs.declared.LoadAnswer.TheVariants as answer
-use Rattle.load.proofs.Result.{refused_bind, tables_in, load_tables}
+use Rattle.load.proofs.Result.{tables_in, load_tables}
+use Rattle.refusal.proofs.Laws.{refused_bind}
 use Rattle.devices.proofs.Laws.{Held, asked}
 use Rattle.walk.specs.Walking.{Stand}
 use Rattle.walk.specs.Rule.{walk_from, in_room, WalkRule}
 use Rattle.fabric.specs.Tables.{rows_with}
 use Rattle.walk.specs.Tables.{rows_of, Tabled}
 use Rattle.path.specs.Words.{words_needed, with_path, output_by}
-use Rattle.path.specs.Put.{Put, Sized, walk_outcome}
-use Rattle.path.specs.declared.WalkAnswer.{WalkAnswer}
-use Rattle.path.specs.declared.WalkAnswer.TheVariants as path
+use Rattle.path.specs.Put.{Put, Sized}
 use Rattle.walks.specs.Calls.{single, path_answer, walk_answer, WalkDone}
+use Rattle.refusal.specs.Refusal.{outcome}
+use Rattle.load.specs.Answers.{counted}
 
 -- ---- a refusal is no value
 
@@ -69,8 +70,8 @@ kept_by name old (value o) e = absurd (refused_value e)
 
 module _ (t v : List ℕ) (s : Stand) (out : List ℕ) where
   -- loading is refused, or the start isn't there
-  pub turned_away : (r : Refusal) → refused_by r ≡ bind (loaded t v) (λ x. asked_adapter x s.place s.adapter) → WalkDone t v s out (path.Refused r) out
-  unfolding walk_outcome walk_answer path_answer bind
+  pub turned_away : (r : Refusal) → refused_by r ≡ bind (loaded t v) (λ x. asked_adapter x s.place s.adapter) → WalkDone t v s out (Err r) out
+  unfolding walk_answer path_answer bind
   turned_away r e = record {
     answers = sym (refused_bind r (in_room (words_needed single) (length out))) ∙ ap (λ (o : Outcome (Option (List EntryRow))). bind o (in_room (words_needed single) (length out))) w;
     writes = kept_by single out (path_answer t v s) (sym (ap (λ (o : Outcome (Option (List EntryRow))). bind o nothing) w) ∙ refused_bind r nothing ∙ w);
@@ -91,18 +92,18 @@ module _ (t v : List ℕ) (s : Stand) (out : List ℕ) where
     unfolding path_answer bind
     path_answer_lem = ap (λ (o : Outcome Rows). bind o (λ x. bind (asked_adapter x s.place s.adapter) (λ z. walk_from x s))) l ∙ ap (λ (o : Outcome AdapterRow). bind o (λ z. walk_from (rows_of en ad ro ma) s)) a
 
-    pub put_done : Sized en ro → Tabled en ad ro → s.place < 65536 → (r : WalkAnswer) (out' : List ℕ) → Put en ad ro ma s single out r out' → WalkDone t v s out r out'
+    pub put_done : Sized en ro → Tabled en ad ro → s.place < 65536 → (r : Result (Option ℕ) Refusal) (out' : List ℕ) → Put en ad ro ma s single out r out' → WalkDone t v s out r out'
     unfolding walk_answer
     put_done z k f r out' w = record {
       answers = w.answers z k f ∙ sym (ap (λ (o : Outcome (Option (List EntryRow))). bind o (in_room (words_needed single) (length out))) path_answer_lem);
       writes = w.writes z k f ∙ sym (ap (λ (o : Outcome (Option (List EntryRow))). output_by single o out) path_answer_lem);
       kept = w.kept;
-      walks = λ x u m b. subst (λ (n : Rows). WalkRule n s (words_needed single) (length out) (λ hs. out' ≡ with_path single hs out) (walk_outcome r)) (value_one _ _ (sym l ∙ m)) (w.walks z k d h);
+      walks = λ x u m b. subst (λ (n : Rows). WalkRule n s (words_needed single) (length out) (λ hs. out' ≡ with_path single hs out) (outcome r)) (value_one _ _ (sym l ∙ m)) (w.walks z k d h);
     }
 
 -- ---- the tables that loading answers
 
-module _ (l : Loaded) (t v : List ℕ) (e a d : ℕ) (same : loaded_rows l ≡ loaded t v) (g : l.answer ≡ answer.Tables e a d) where
+module _ (l : Loaded) (t v : List ℕ) (e a d : ℕ) (same : loaded_rows l ≡ loaded t v) (g : l.answer ≡ counted e a d) where
   pub rows_loaded : loaded t v ≡ value (rows_of (take e l.entries) (take a l.adapters) (take d l.routes) (take d l.marks))
   unfolding rows_of rows_with bind
   rows_loaded = go (loaded t v) (load_tables l t v same value e a d g)
@@ -112,20 +113,20 @@ module _ (l : Loaded) (t v : List ℕ) (e a d : ℕ) (same : loaded_rows l ≡ l
       go (value x) w = sym w
 
   -- 14
-  pub no_device : (p n : ℕ) → none ≡ device_in (devices_in (take d l.routes) (take d l.marks)) p → refused_by refusal.Missing ≡ bind (loaded t v) (λ x. asked_adapter x p n)
-  unfolding refused_by asked_adapter present bind
-  no_device p n f = asked l t v e a d p (λ x z. present (adapter_in x.adapters p n)) none same g f
+  pub no_device : (p n : ℕ) → None ≡ device_in (devices_in (take d l.routes) (take d l.marks)) p → refused_by refusal.Missing ≡ bind (loaded t v) (λ x. asked_adapter x p n)
+  unfolding asked_adapter present bind
+  no_device p n f = asked l t v e a d p (λ x z. present (adapter_in x.adapters p n)) None same g f
 
-  pub no_adapter : (p n : ℕ) (z : DeviceRow) → some z ≡ device_in (devices_in (take d l.routes) (take d l.marks)) p → none ≡ adapter_in (adapters_in (take a l.adapters)) p n
+  pub no_adapter : (p n : ℕ) (z : DeviceRow) → Some z ≡ device_in (devices_in (take d l.routes) (take d l.marks)) p → None ≡ adapter_in (adapters_in (take a l.adapters)) p n
       → refused_by refusal.Missing ≡ bind (loaded t v) (λ x. asked_adapter x p n)
-  unfolding refused_by asked_adapter present bind
-  no_adapter p n z f h = ap present h ∙ asked l t v e a d p (λ x w. present (adapter_in x.adapters p n)) (some z) same g f
+  unfolding asked_adapter present bind
+  no_adapter p n z f h = ap present h ∙ asked l t v e a d p (λ x w. present (adapter_in x.adapters p n)) (Some z) same g f
 
-pub asked_device_lem : (en ad ro ma : List ℕ) (p : ℕ) (z : DeviceRow) → some z ≡ device_in (devices_in ro ma) p → asked_device (rows_of en ad ro ma) p ≡ value z
+pub asked_device_lem : (en ad ro ma : List ℕ) (p : ℕ) (z : DeviceRow) → Some z ≡ device_in (devices_in ro ma) p → asked_device (rows_of en ad ro ma) p ≡ value z
 unfolding asked_device present rows_of rows_with
 asked_device_lem en ad ro ma p z f = sym (ap present f)
 
-pub asked_adapter_lem : (en ad ro ma : List ℕ) (p n : ℕ) (z : DeviceRow) (y : AdapterRow) → some z ≡ device_in (devices_in ro ma) p → some y ≡ adapter_in (adapters_in ad) p n → asked_adapter (rows_of en ad ro ma) p n ≡ value y
+pub asked_adapter_lem : (en ad ro ma : List ℕ) (p n : ℕ) (z : DeviceRow) (y : AdapterRow) → Some z ≡ device_in (devices_in ro ma) p → Some y ≡ adapter_in (adapters_in ad) p n → asked_adapter (rows_of en ad ro ma) p n ≡ value y
 unfolding asked_adapter present rows_of rows_with bind
 asked_adapter_lem en ad ro ma p n z y f h = ap (λ (o : Outcome DeviceRow). bind o (λ w. present (adapter_in (adapters_in ad) p n))) (asked_device_lem en ad ro ma p z f) ∙ sym (ap present h)
 

@@ -1,6 +1,5 @@
 -- The call for a single walk: 3, 4, loading, 14, then as the walk ends, 13, and 2 last; and the rule of every such call. Assumes nothing.
-use Rattle.std.specs.Prelude.{ℕ, ◌≡◌, false, List, length}
-use Rattle.std.proofs.Math.Option.{Option}
+use Rattle.std.specs.Prelude.{ℕ, ◌≡◌, false, List, length, Result, Option}
 use Rattle.refusal.specs.Outcome.{Outcome, value, bind}
 use Rattle.adapter.specs.Adapter.{AdapterRow}
 use Rattle.tables.specs.Rows.{EntryRow, Rows}
@@ -9,8 +8,9 @@ use Rattle.load.specs.Answers.{asked_adapter}
 use Rattle.walk.specs.Walking.{Stand}
 use Rattle.walk.specs.Rule.{walk_from, in_room, WalkRule}
 use Rattle.path.specs.Words.{words_needed, with_path, output_by}
-use Rattle.path.specs.Put.{walk_outcome, is_path}
-use Rattle.path.specs.declared.WalkAnswer.{WalkAnswer}
+use Rattle.path.specs.Put.{is_path}
+use Rattle.refusal.specs.Refusal.{outcome}
+use Rattle.refusal.specs.declared.Refusal.{Refusal}
 
 -- the name of a single walk's path
 abbrev pub single : ℕ
@@ -24,11 +24,11 @@ unfoldable pub walk_answer : List ℕ → List ℕ → Stand → ℕ → Outcome
 walk_answer t v s room = bind (path_answer t v s) (in_room (words_needed single) room)
 
 -- the whole outcome of the call
-pub record WalkDone (t v : List ℕ) (s : Stand) (output : List ℕ) (r : WalkAnswer) (output' : List ℕ) : Type 0 where
-  pub answers : walk_outcome r ≡ walk_answer t v s (length output)
+pub record WalkDone (t v : List ℕ) (s : Stand) (output : List ℕ) (r : Result (Option ℕ) Refusal) (output' : List ℕ) : Type 0 where
+  pub answers : outcome r ≡ walk_answer t v s (length output)
   pub writes : output' ≡ output_by single (path_answer t v s) output
   -- what isn't a path is not written
   pub kept : is_path r ≡ false → output' ≡ output
   -- every accepted survey and every start in it
   pub walks : (x : Rows) (y : AdapterRow) → loaded t v ≡ value x → asked_adapter x s.place s.adapter ≡ value y
-      → WalkRule x s (words_needed single) (length output) (λ hs. output' ≡ with_path single hs output) (walk_outcome r)
+      → WalkRule x s (words_needed single) (length output) (λ hs. output' ≡ with_path single hs output) (outcome r)

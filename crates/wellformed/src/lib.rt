@@ -2,19 +2,21 @@
 #![tactic(auto)]
 
 ghost use Rattle.std.specs.Prelude.{◌≡◌};
-ghost use Rattle.survey.specs.Rules.{check_of, checked_outcome};
+ghost use Rattle.survey.specs.Rules.{check_of};
+ghost use Rattle.refusal.specs.Refusal.{outcome};
 
-use survey::{Checked, Step, Under};
+use refusal::Refusal;
+use survey::Under;
 
 // A survey holds at most so many words.
 pub const MAX_WORDS: usize = 16384;
 
 // Whether the words are well formed; refused (4) with 16,384 if they are too many, else with the head place of the first group that breaks the rules.
-pub fn check(survey: &[u32]) -> Checked
-    ensures { checked_outcome result ≡ check_of survey.now }
+pub fn check(survey: &[u32]) -> Result<(), Refusal>
+    ensures { outcome result ≡ check_of survey.now }
 {
     if MAX_WORDS < survey.len() {
-        return Checked::Refused(MAX_WORDS);
+        return Err(Refusal::Survey(MAX_WORDS));
     }
     let mut u = Under {
         begun: false,
@@ -28,13 +30,13 @@ pub fn check(survey: &[u32]) -> Checked
         let w = survey[i];
         let size = rules::group_size(w);
         if survey.len() - i < size {
-            return Checked::Refused(i);
+            return Err(Refusal::Survey(i));
         }
-        let Step::On(next) = rules::advance(u, w, layout::word_at(survey, i + 2)) else {
-            return Checked::Refused(i);
+        let Some(next) = rules::advance(u, w, layout::word_at(survey, i + 2)) else {
+            return Err(Refusal::Survey(i));
         };
         u = next;
         i += size;
     }
-    Checked::WellFormed
+    Ok(())
 }

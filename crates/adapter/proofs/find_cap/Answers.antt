@@ -2,7 +2,6 @@ use Rattle.adapter.proofs.Laws as laws
 use Rattle.named.proofs.Laws.{seek_less}
 use mathlib.Core.Path.{refl}
 use native.Mathlib.Omega.{arith}
-use Prim.Native.Nat.{◌-◌}
 use Rattle.adapter.proofs.find_cap.Goals as goal
 use Rattle.adapter.proofs.find_cap.Goals.{then-word_at-cap+then-start-lt1, then-word_at-cap+else-start-lt1, else-word_at-cap}
 

@@ -1,7 +1,7 @@
 use borrow.Author.Tests.{not-true, not-false}
 use Rattle.adapter.proofs.Laws as laws
 use mathlib.Core.Bool.{not}
-use mathlib.Core.Path.{ap}
+use mathlib.Core.Path.{ap, ◌∙◌}
 use Rattle.adapter.proofs.is_lane0.Goals as goal
 
 pub returns-then-type_number-ne2 : goal.returns-then-type_number-ne2
@@ -16,8 +16,5 @@ returns-then-number-eq3 c = laws.lane0_three _ _ _ _ (laws.a_lane _ _ c.type_num
 pub returns-then-not-usb4 : goal.returns-then-not-usb4
 returns-then-not-usb4 c = laws.lane0_old _ _ _ _ (laws.a_lane _ _ c.type_number.ensures c.if-type_number-ne2.false) c.if-number-eq1.false c.if-number-eq3.false (not-true c.args.usb4 (ap (λ b. not b) c.if-not-usb4.true))
 
-pub returns-in_default : goal.returns-in_default
-returns-in_default c = laws.lane0_none _ _ _ _ (laws.a_lane _ _ c.type_number.ensures c.if-type_number-ne2.false) c.if-number-eq1.false c.if-number-eq3.false (not-false c.args.usb4 (ap (λ b. not b) c.if-not-usb4.false)) _ c.find_cap.ensures c.in_default.is
-
 pub returns : goal.returns
-returns c = laws.lane0_cap _ _ _ _ (laws.a_lane _ _ c.type_number.ensures c.if-type_number-ne2.false) c.if-number-eq1.false c.if-number-eq3.false (not-false c.args.usb4 (ap (λ b. not b) c.if-not-usb4.false)) _ c.find_cap.ensures _ _ c.in-Part.is
+returns c = c.is_some.ensures ∙ laws.lane0_new _ _ _ _ (laws.a_lane _ _ c.type_number.ensures c.if-type_number-ne2.false) c.if-number-eq1.false c.if-number-eq3.false (not-false c.args.usb4 (ap (λ b. not b) c.if-not-usb4.false)) _ c.find_cap.ensures

@@ -12,4 +12,4 @@ pub returns-in_default : goal.returns-in_default
 returns-in_default c = laws.head_few _ _ _ c.word_at.ensures c.if-word_at-eq0.false _ c.third_value.ensures c.in_default.is
 
 pub returns : goal.returns
-returns c = laws.head_kind _ _ _ c.word_at.ensures c.if-word_at-eq0.false _ c.third_value.ensures _ c.in-Value.is _ c.bits.ensures _ c.adapter_type.ensures
+returns c = laws.head_kind _ _ _ c.word_at.ensures c.if-word_at-eq0.false _ c.third_value.ensures _ c.in-Some.is _ c.bits.ensures _ c.adapter_type.ensures

@@ -1,17 +1,22 @@
-use mathlib.Core.Path.{sym, ap, ◌∙◌}
-use Rattle.register.specs.Line.{line_outcome}
+use Rattle.std.specs.Prelude.{Ok, Some, None}
+use mathlib.Core.Path.{◌≡◌, sym, ap, ◌∙◌}
 use Rattle.refusal.specs.Outcome.{bind}
 use Rattle.answers.specs.Said.{said, padded, words_in, perhaps, register_words}
+use Rattle.answers.proofs.Laws.{perhaps_refused}
 use Rattle.answers.proofs.line.Goals as goal
+use Rattle.refusal.specs.Refusal.{outcome}
 
-pub returns-in-Record : goal.returns-in-Record
-unfolding said padded perhaps words_in register_words line_outcome bind
-returns-in-Record c = sym (ap (λ a. said (perhaps register_words (line_outcome a))) c.in-Record.is)
+pub returns-in-Ok-Some : goal.returns-in-Ok-Some
+unfolding said padded perhaps words_in register_words bind
+returns-in-Ok-Some c =
+    let found : c.in-Ok-Some.field-0 ≡ Some c.in-Ok-Some.r = rw c.in-Ok-Some.is at c.in-Ok-Some.field-0-is in
+    sym (ap (λ a. said (perhaps register_words (outcome a))) (c.in-Ok-Some.is ∙ ap (λ o. Ok o) found))
 
-pub returns-in-None : goal.returns-in-None
-unfolding said padded perhaps words_in register_words line_outcome bind
-returns-in-None c = sym (ap (λ a. said (perhaps register_words (line_outcome a))) c.in-None.is)
+pub returns-in-Ok-None : goal.returns-in-Ok-None
+unfolding said padded perhaps words_in register_words bind
+returns-in-Ok-None c =
+    let found : c.in-Ok-None.field-0 ≡ None = rw c.in-Ok-None.is at c.in-Ok-None.field-0-is in
+    sym (ap (λ a. said (perhaps register_words (outcome a))) (c.in-Ok-None.is ∙ ap (λ o. Ok o) found))
 
-pub returns-in-NotAscii : goal.returns-in-NotAscii
-unfolding said padded perhaps words_in register_words line_outcome bind
-returns-in-NotAscii c = c.refused.ensures ∙ sym (ap (λ a. said (perhaps register_words (line_outcome a))) c.in-NotAscii.is)
+pub returns-in-Err : goal.returns-in-Err
+returns-in-Err c = c.refused.ensures ∙ perhaps_refused register_words c.in-Err.refusal ∙ sym (ap (λ a. said (perhaps register_words (outcome a))) c.in-Err.is)

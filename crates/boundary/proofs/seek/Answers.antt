@@ -1,4 +1,3 @@
-use Prim.Native.Nat.{◌-◌}
 use native.Mathlib.Omega.{arith}
 use Rattle.tables.proofs.Laws.{below_next, ends_meet}
 use Rattle.boundary.proofs.seek.Goals as goal

@@ -1,4 +1,3 @@
-use Prim.Native.Nat.{◌-◌}
 use native.Mathlib.Omega.{arith}
 use Rattle.capabilities.proofs.Heads as laws
 use Rattle.capabilities.proofs.head_from.Goals as goal

@@ -15,7 +15,7 @@ overflow_add-result c = omega (arith, (c.ends.ensures c.if-ends.true).within)
 
 pub returns-then-ends : goal.returns-then-ends
 unfolding QuickAt
-returns-then-ends c = columns_met c.args.s.now c.args.at 32 _ _ c.in-Record.is c.five_columns.ensures
+returns-then-ends c = columns_met c.args.s.now c.args.at 32 _ _ c.in-Some.is c.five_columns.ensures
 
 pub four_columns-requires : goal.four_columns-requires
 four_columns-requires c = c.ends-2.ensures c.if-ends-2.true
@@ -29,7 +29,7 @@ overflow_add-result-then-ends-2 c = omega (arith, (c.ends-2.ensures c.if-ends-2.
 
 pub returns-then-ends-2 : goal.returns-then-ends-2
 unfolding QuickAt
-returns-then-ends-2 c = columns_met c.args.s.now c.args.at 27 _ _ c.in-Record-four_columns.is c.four_columns.ensures
+returns-then-ends-2 c = columns_met c.args.s.now c.args.at 27 _ _ c.in-Some-four_columns.is c.four_columns.ensures
 
 pub returns : goal.returns
 unfolding QuickAt

@@ -33,4 +33,4 @@ returns c = let s = c.args.s.now in
     let i = c.args.i in
     let p = c.next_prefixed.ensures (not-false _ (ap (λ b. not b) c.if-not-next_prefixed.false)) in
     let q = c.next_prefixed-2.ensures (not-false _ (ap (λ b. not b) c.if-not-next_prefixed-2.false)) in
-    five_columns s i (i + 19) c.in-Read.f _ (front_of s i (i + 19) _ _ c.in-Read.is c.read_front.ensures) c.if-value-gt-MAX_32.false refl c.requires p.1 q.0 q.1 (c.eight_digits-value.ensures (omega (arith, c.if-value-gt-MAX_32.false)))
+    five_columns s i (i + 19) c.in-Some.f _ (front_of s i (i + 19) _ _ c.in-Some.is c.read_front.ensures) c.if-value-gt-MAX_32.false refl c.requires p.1 q.0 q.1 (c.eight_digits-value.ensures (omega (arith, c.if-value-gt-MAX_32.false)))

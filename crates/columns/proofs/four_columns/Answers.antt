@@ -28,4 +28,4 @@ unfolding ColumnsAt register_of
 returns c = let s = c.args.s.now in
     let i = c.args.i in
     let p = c.next_prefixed.ensures (not-false _ (ap (λ b. not b) c.if-not-next_prefixed.false)) in
-    four_columns s i (i + 14) c.in-Read.f _ (front_of s i (i + 14) _ _ c.in-Read.is c.read_front.ensures) c.if-value-gt-MAX_32.false c.requires p.1 (c.eight_digits-value.ensures (omega (arith, c.if-value-gt-MAX_32.false)))
+    four_columns s i (i + 14) c.in-Some.f _ (front_of s i (i + 14) _ _ c.in-Some.is c.read_front.ensures) c.if-value-gt-MAX_32.false c.requires p.1 (c.eight_digits-value.ensures (omega (arith, c.if-value-gt-MAX_32.false)))

@@ -30,9 +30,9 @@ unfolding FrontsAt
 returns-in_default c = tt
 
 pub overflow_cast-result-2 : goal.overflow_cast-result-2
-overflow_cast-result-2 c = record { fits = lt_of_le_of_lt (decimal_le 0xffff _ _ (sym c.parse_decimal.ensures ∙ c.in-Value.is)) (lit< tt) }
+overflow_cast-result-2 c = record { fits = lt_of_le_of_lt (decimal_le 0xffff _ _ (sym c.parse_decimal.ensures ∙ c.in-Some.is)) (lit< tt) }
 
 pub returns : goal.returns
 unfolding FrontsAt
 returns c = let x = c.next_prefixed.ensures (not-false _ (ap (λ b. not b) c.if-not-next_prefixed.false)) in
-    front_at c.args.s.now c.args.i c.args.k _ _ _ c.requires.0 c.requires.2 (c.prefixed.ensures (not-false _ (ap (λ b. not b) c.if-not-prefixed.false))) c.if-s-i-ne32.false x.0 x.1 (c.parted_digits-ids.ensures (omega (arith, c.if-ids-gt-MAX_32.false))) c.if-ids-gt-MAX_32.false c.padded-start.ensures.0 c.padded-start.ensures.1 (sym c.parse_decimal.ensures ∙ c.in-Value.is)
+    front_at c.args.s.now c.args.i c.args.k _ _ _ c.requires.0 c.requires.2 (c.prefixed.ensures (not-false _ (ap (λ b. not b) c.if-not-prefixed.false))) c.if-s-i-ne32.false x.0 x.1 (c.parted_digits-ids.ensures (omega (arith, c.if-ids-gt-MAX_32.false))) c.if-ids-gt-MAX_32.false c.padded-start.ensures.0 c.padded-start.ensures.1 (sym c.parse_decimal.ensures ∙ c.in-Some.is)

@@ -1,3 +1,4 @@
+use Rattle.std.proofs.lemmas.Result.{err_from_is_err_and}
 use mathlib.Core.Path.{ap, ◌∙◌}
 use Prim.Native.Nat.{ℕ}
 use Rattle.refusal.specs.Outcome.{Outcome, value}
@@ -11,10 +12,11 @@ use Rattle.devices.proofs.device.Goals as goal
 abbrev info : DeviceFacts → ℕ → Outcome Info
 info d n = value (record { kind = d.kind; usb4 = d.usb4; domain = d.domain; route = d.route; depth = n })
 
-pub returns-in-Refused : goal.returns-in-Refused
+pub returns-in_err-d : goal.returns-in_err-d
 unfolding device_outcome device_answer
-returns-in-Refused c = read_refused _ _ _ _ _ c.read_device.ensures _ c.in-Refused.is
+returns-in_err-d c = let p = err_from_is_err_and c.from_residual.result c.from_residual.ensures.1 in
+    rw (p.1, p.2) (read_refused _ _ _ _ _ c.read_device.ensures _ c.in_err-d.was)
 
-pub returns-in-Device : goal.returns-in-Device
+pub returns : goal.returns
 unfolding device_outcome device_answer info_in info_of device_row
-returns-in-Device c = ap (info c.in-Device.d) c.depth.ensures ∙ read_device_lem _ _ _ (λ x. value (info_of x)) _ c.read_device.ensures _ c.in-Device.is
+returns c = ap (info c.in_ok-d.d) c.depth.ensures ∙ read_device_lem _ _ _ (λ x. value (info_of x)) _ c.read_device.ensures _ c.in_ok-d.was

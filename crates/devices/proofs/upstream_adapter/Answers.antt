@@ -1,23 +1,22 @@
 use mathlib.Core.Path.{ap, sym, ◌∙◌}
-use Rattle.load.specs.Answers.{refused_by}
+use Rattle.std.specs.Prelude.{Err}
+use Rattle.std.proofs.lemmas.Result.{err_from_is_err_and}
 use Rattle.tables.specs.Found.{device_row, upstream_outcome as upstream_found}
 use Rattle.adapter.specs.Adapter.{adapter_site}
-use Rattle.devices.specs.Calls.{upstream_answer, upstream_outcome}
-use Rattle.devices.proofs.Laws.{read_refused, read_device_lem}
+use Rattle.refusal.proofs.Laws.{no_field}
+use Rattle.devices.specs.Calls.{upstream_answer}
+use Rattle.devices.proofs.Laws.{read_refused, read_device_lem, upstream_known}
 use Rattle.devices.proofs.upstream_adapter.Goals as goal
 
-pub returns-in-Refused : goal.returns-in-Refused
-unfolding upstream_outcome upstream_answer
-returns-in-Refused c = read_refused _ _ _ _ _ c.read_device.ensures _ c.in-Refused.is
+pub returns-in_err-d : goal.returns-in_err-d
+unfolding upstream_answer
+returns-in_err-d c = let p = err_from_is_err_and c.from_residual.result c.from_residual.ensures.1 in
+    rw (p.1, p.2) (read_refused _ _ _ _ _ c.read_device.ensures _ c.in_err-d.was)
 
-pub returns-in-Adapter : goal.returns-in-Adapter
-unfolding upstream_outcome upstream_answer upstream_found device_row
-returns-in-Adapter c = sym (ap (upstream_found (adapter_site c.args.place 0)) c.in-Adapter.is) ∙ read_device_lem _ _ _ (λ x. x.upstream) _ c.read_device.ensures _ c.in-Device.is
+pub returns-in-Ok : goal.returns-in-Ok
+unfolding upstream_answer device_row
+returns-in-Ok c = sym (ap (upstream_found (adapter_site c.args.place 0)) c.in-Ok.is ∙ upstream_known _ _) ∙ read_device_lem _ _ _ (λ x. x.upstream) _ c.read_device.ensures _ c.in_ok-d.was
 
-pub returns-in-None : goal.returns-in-None
-unfolding upstream_outcome upstream_answer upstream_found device_row
-returns-in-None c = sym (ap (upstream_found (adapter_site c.args.place 0)) c.in-None.is) ∙ read_device_lem _ _ _ (λ x. x.upstream) _ c.read_device.ensures _ c.in-Device.is
-
-pub returns-in-NoField : goal.returns-in-NoField
-unfolding upstream_outcome upstream_answer upstream_found device_row refused_by adapter_site
-returns-in-NoField c = sym (ap (upstream_found (adapter_site c.args.place 0)) c.in-NoField.is) ∙ read_device_lem _ _ _ (λ x. x.upstream) _ c.read_device.ensures _ c.in-Device.is
+pub returns-in-Err-NoField : goal.returns-in-Err-NoField
+unfolding upstream_answer upstream_found device_row adapter_site
+returns-in-Err-NoField c = sym (ap (upstream_found (adapter_site c.args.place 0)) (c.in-Err-NoField.is ∙ ap Err (no_field _))) ∙ read_device_lem _ _ _ (λ x. x.upstream) _ c.read_device.ensures _ c.in_ok-d.was

@@ -12,7 +12,7 @@ pub returns-in_default : goal.returns-in_default
 returns-in_default c = no_device _ _ _ _ _ _ _ (record { entries = omega (arith, c.if-entries-gt-MOST_ENTRIES.false); devices = omega (arith, c.if-routes-gt-MOST_DEVICES.false) }) _ c.find_device.ensures c.in_default.is
 
 pub returns-in_default-find_adapter : goal.returns-in_default-find_adapter
-returns-in_default-find_adapter c = no_adapter _ _ _ _ _ _ _ (record { entries = omega (arith, c.if-entries-gt-MOST_ENTRIES.false); devices = omega (arith, c.if-routes-gt-MOST_DEVICES.false) }) _ c.find_device.ensures _ c.in-Device.is _ c.find_adapter.ensures c.in_default-find_adapter.is
+returns-in_default-find_adapter c = no_adapter _ _ _ _ _ _ _ (record { entries = omega (arith, c.if-entries-gt-MOST_ENTRIES.false); devices = omega (arith, c.if-routes-gt-MOST_DEVICES.false) }) _ c.find_device.ensures _ c.in-Some.is _ c.find_adapter.ensures c.in_default-find_adapter.is
 
 pub returns : goal.returns
-returns c = in_kind _ _ _ _ _ _ _ (record { entries = omega (arith, c.if-entries-gt-MOST_ENTRIES.false); devices = omega (arith, c.if-routes-gt-MOST_DEVICES.false) }) _ c.find_device.ensures _ c.in-Device.is _ c.find_adapter.ensures _ c.in-Adapter.is _ _ c.of_kind.ensures
+returns c = in_kind _ _ _ _ _ _ _ (record { entries = omega (arith, c.if-entries-gt-MOST_ENTRIES.false); devices = omega (arith, c.if-routes-gt-MOST_DEVICES.false) }) _ c.find_device.ensures _ c.in-Some.is _ c.find_adapter.ensures _ c.in-Some-find_adapter.is _ _ c.of_kind.ensures

@@ -1,4 +1,3 @@
-use Prim.Native.Nat.{◌-◌}
 use Rattle.discovery.proofs.Notes.{unfound_start, unfound_on, found_here, found_none}
 use Rattle.discovery.proofs.find_note.Goals as goal
 

@@ -1,3 +1,4 @@
+use Rattle.std.specs.Prelude.{Ok}
 use mathlib.Core.Path.{sym, ◌∙◌, ap}
 use mathlib.Core.Bool.{false≢true}
 use Rattle.receive.specs.Tables.{Said.none, Said.dropped, received_outcome}
@@ -7,16 +8,16 @@ use Rattle.discovery.proofs.is_quiet.Goals as goal
 pub returns-then-leaves_by : goal.returns-then-leaves_by
 returns-then-leaves_by c = λ ad ro ma f e. absurd (false≢true e)
 
-pub returns-in-Nothing : goal.returns-in-Nothing
+pub returns-in-Ok-Nothing : goal.returns-in-Ok-Nothing
 unfolding received_outcome
-returns-in-Nothing c = λ ad ro ma f e. quiet _ ad ro ma 65535 _ none (sym c.leaves_by.ensures ∙ c.if-leaves_by.false) f (ap (received_outcome 65535) c.in-Nothing.is)
+returns-in-Ok-Nothing c = λ ad ro ma f e. quiet _ ad ro ma 65535 _ none (sym c.leaves_by.ensures ∙ c.if-leaves_by.false) f (ap (received_outcome 65535) (c.in-Ok-Nothing.is ∙ ap Ok (rw c.in-Ok-Nothing.is at c.in-Ok-Nothing.field-0-is)))
 
-pub returns-in-Lost : goal.returns-in-Lost
+pub returns-in-Ok-Lost : goal.returns-in-Ok-Lost
 unfolding received_outcome
-returns-in-Lost c = λ ad ro ma f e. quiet _ ad ro ma 65535 _ dropped (sym c.leaves_by.ensures ∙ c.if-leaves_by.false) f (ap (received_outcome 65535) c.in-Lost.is)
+returns-in-Ok-Lost c = λ ad ro ma f e. quiet _ ad ro ma 65535 _ dropped (sym c.leaves_by.ensures ∙ c.if-leaves_by.false) f (ap (received_outcome 65535) (c.in-Ok-Lost.is ∙ ap Ok (rw c.in-Ok-Lost.is at c.in-Ok-Lost.field-0-is)))
 
-pub returns-in-Refused : goal.returns-in-Refused
-returns-in-Refused c = λ ad ro ma f e. absurd (false≢true e)
+pub returns-in-Err : goal.returns-in-Err
+returns-in-Err c = λ ad ro ma f e. absurd (false≢true e)
 
-pub returns-in-Path : goal.returns-in-Path
-returns-in-Path c = λ ad ro ma f e. absurd (false≢true e)
+pub returns-in-Ok-Path : goal.returns-in-Ok-Path
+returns-in-Ok-Path c = λ ad ro ma f e. absurd (false≢true e)

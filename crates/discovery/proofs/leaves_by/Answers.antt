@@ -1,4 +1,3 @@
-use Prim.Native.Nat.{◌-◌}
 use mathlib.Core.Path.{refl, sym, ◌∙◌}
 use Rattle.discovery.proofs.Quiet.{out_here, out_on, out_end}
 use Rattle.discovery.proofs.leaves_by.Goals as goal

@@ -1,4 +1,3 @@
-use Prim.Native.Nat.{◌-◌}
 use native.Mathlib.Omega.{arith}
 use Rattle.discovery.proofs.Rings.{putting_start, putting_end, putting_full, putting_on}
 use Rattle.discovery.proofs.put_rings.Goals as goal

@@ -2,14 +2,10 @@ use mathlib.Core.Path.{sym, ap}
 use Rattle.discovery.specs.Work.{tally_of}
 use Rattle.discovery.proofs.tally_plan.Goals as goal
 
-pub returns-in-Refused : goal.returns-in-Refused
+pub returns-in-None : goal.returns-in-None
 unfolding tally_of
-returns-in-Refused c = sym (ap tally_of c.in-Refused.is)
+returns-in-None c = sym (ap tally_of c.in-None.is)
 
-pub returns-in-Absent : goal.returns-in-Absent
+pub returns-in-Some : goal.returns-in-Some
 unfolding tally_of
-returns-in-Absent c = sym (ap tally_of c.in-Absent.is)
-
-pub returns-in-Tunnel : goal.returns-in-Tunnel
-unfolding tally_of
-returns-in-Tunnel c = sym (ap tally_of c.in-Tunnel.is)
+returns-in-Some c = sym (ap tally_of c.in-Some.is)

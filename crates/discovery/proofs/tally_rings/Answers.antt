@@ -1,5 +1,5 @@
-use mathlib.Core.Path.{sym, ◌∙◌}
-use Prim.Native.Nat.{◌-◌}
+use Rattle.std.proofs.lemmas.Result.{err_from_is_err_and}
+use mathlib.Core.Path.{sym}
 use native.Mathlib.Omega.{arith}
 use Rattle.discovery.proofs.Rings.{counted_start, counted_end, counted_on, counted_past, counted_refused, tally_few, idle_marked, ring_idle, putting_start, putting_on, putting_drafted, drafted_refused, ring_put}
 use Rattle.discovery.proofs.tally_rings.Goals as goal
@@ -21,35 +21,37 @@ loop-ring-preserved-then-is_idle c = let i = c.loop-ring.invariant in
 pub overflow_cast-r : goal.overflow_cast-r
 overflow_cast-r c = omega (arith, c.loop-ring-test.true, c.requires.1)
 
-pub plan_ring-plan-requires : goal.plan_ring-plan-requires
-plan_ring-plan-requires c = c.requires.3
+pub plan_ring-requires : goal.plan_ring-requires
+plan_ring-requires c = c.requires.3
 
-pub shape_of-draft-in-Refused : goal.shape_of-draft-in-Refused
-shape_of-draft-in-Refused c = c.loop-ring.invariant.2.long
+pub shape_of-draft-in_err-plan : goal.shape_of-draft-in_err-plan
+shape_of-draft-in_err-plan c = c.loop-ring.invariant.2.long
 
-pub returns-in-Refused : goal.returns-in-Refused
-returns-in-Refused c = let i = c.loop-ring.invariant in
-    let u = counted_refused _ _ _ _ _ _ _ _ _ i.0 c.loop-ring-test.true _ c.plan_ring-plan.ensures _ (sym c.tally_plan.ensures ∙ c.in-Refused.is) in
-    record { tallies = (u, i.1); drafted = drafted_refused _ _ _ _ _ _ _ _ u _ }
+pub returns-in_err-plan : goal.returns-in_err-plan
+returns-in_err-plan c = let i = c.loop-ring.invariant in
+    let u = counted_refused _ _ _ _ _ _ _ _ _ i.0 c.loop-ring-test.true _ (rw c.in_err-plan.was at c.plan_ring.ensures) in
+    let p = err_from_is_err_and c.from_residual.result c.from_residual.ensures.1 in
+    rw (p.1, p.2) record { tallies = (u, i.1); drafted = drafted_refused _ _ _ _ _ _ _ _ u _ }
 
 pub overflow_add-need : goal.overflow_add-need
-overflow_add-need c = omega (arith, c.loop-ring.invariant.0.few, c.loop-ring.invariant.0.to, c.requires.1, tally_few _ _ (sym c.tally_plan.ensures ∙ c.in-Words.is) c.plan_ring-plan.ensures.few)
+overflow_add-need c = omega (arith, c.loop-ring.invariant.0.few, c.loop-ring.invariant.0.to, c.requires.1, tally_few _ _ (sym c.tally_plan-words.ensures) (rw c.in_ok-plan.was at c.plan_ring.ensures).few)
 
 pub put_plan-at-requires : goal.put_plan-at-requires
-put_plan-at-requires c = (c.loop-ring.invariant.2.within, c.plan_ring-plan.ensures.three)
+put_plan-at-requires c = (c.loop-ring.invariant.2.within, (rw c.in_ok-plan.was at c.plan_ring.ensures).three)
 
-pub overflow_add-ring-in-Words : goal.overflow_add-ring-in-Words
-overflow_add-ring-in-Words c = omega (arith, c.loop-ring-test.true, c.requires.1)
+pub overflow_add-ring-else-is_idle : goal.overflow_add-ring-else-is_idle
+overflow_add-ring-else-is_idle c = omega (arith, c.loop-ring-test.true, c.requires.1)
 
 pub loop-ring-smaller : goal.loop-ring-smaller
 loop-ring-smaller c = omega (arith, c.loop-ring-test.true)
 
 pub loop-ring-preserved : goal.loop-ring-preserved
 loop-ring-preserved c = let i = c.loop-ring.invariant in
-    let w = sym c.tally_plan.ensures ∙ c.in-Words.is in (
-      counted_on _ _ _ _ _ _ _ _ _ i.0 c.loop-ring-test.true _ c.plan_ring-plan.ensures _ w,
-      idle_marked _ _ _ _ _ _ _ _ i.1 _ _ c.plan_ring-plan.ensures _ w c.mark.ensures,
-      putting_on _ _ _ _ _ _ _ _ _ _ _ i.2 c.loop-ring-test.true _ _ (ring_put _ _ _ _ _ _ _ _ c.plan_ring-plan.ensures _ _ _ _ c.put_plan-at.ensures),
+    let w = sym c.tally_plan-words.ensures in
+    let f = rw c.in_ok-plan.was at c.plan_ring.ensures in (
+      counted_on _ _ _ _ _ _ _ _ _ i.0 c.loop-ring-test.true _ f _ w,
+      idle_marked _ _ _ _ _ _ _ _ i.1 _ _ f _ w c.mark.ensures,
+      putting_on _ _ _ _ _ _ _ _ _ _ _ i.2 c.loop-ring-test.true _ _ (ring_put _ _ _ _ _ _ _ _ f _ _ _ _ c.put_plan-at.ensures),
     )
 
 pub shape_of-draft : goal.shape_of-draft

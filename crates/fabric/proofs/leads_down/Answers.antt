@@ -2,7 +2,6 @@ use mathlib.Core.Path.{◌∙◌}
 use Rattle.refusal.specs.Outcome.{bind}
 use Rattle.refusal.specs.Refusal.{refusal_of}
 use Rattle.adapter.specs.Adapter.{adapter_site}
-use Rattle.load.specs.Answers.{refused_by}
 use Rattle.fabric.specs.Links.{route_or}
 use Rattle.refusal.specs.declared.Fault.TheVariants.{NoDownstreamRoute}
 use Rattle.tables.specs.Found.{device_row}
@@ -12,7 +11,7 @@ use Rattle.fabric.proofs.Laws.{by_route}
 use Rattle.fabric.proofs.leads_down.Goals as goal
 
 pub returns-in_default : goal.returns-in_default
-unfolding next_outcome refused_by route_or bind refusal_of adapter_site
+unfolding next_outcome route_or bind refusal_of adapter_site
 returns-in_default c =
     let a = c.args in
     record {
@@ -23,4 +22,4 @@ returns-in_default c =
 
 pub returns : goal.returns
 unfolding route_or bind
-returns c = record { leads_to = λ k es. (c.go_down.ensures _).leads_to k es ∙ by_route _ _ _ _ _ c.in-Route.is c.downstream_route.ensures }
+returns c = record { leads_to = λ k es. (c.go_down.ensures _).leads_to k es ∙ by_route _ _ _ _ _ c.in-Some.is c.downstream_route.ensures }

@@ -1,18 +1,18 @@
 use mathlib.Core.Path.{sym, ap, ◌∙◌}
+use Rattle.std.specs.Prelude.{Ok}
 use Rattle.refusal.specs.Outcome.{bind}
-use Rattle.parents.specs.Parents.{parent_outcome}
 use Rattle.answers.specs.Said.{said, padded, words_in, perhaps, one}
-use Rattle.replies.proofs.Laws.{perhaps_refused}
+use Rattle.answers.proofs.Laws.{perhaps_refused}
 use Rattle.findings.proofs.parent.Goals as goal
+use Rattle.refusal.specs.Refusal.{outcome}
 
-pub returns-in-Place : goal.returns-in-Place
-unfolding said padded bind perhaps words_in one parent_outcome
-returns-in-Place c = sym (ap (λ a. said (perhaps one (parent_outcome a))) c.in-Place.is)
+pub returns-in-Ok-Some : goal.returns-in-Ok-Some
+unfolding said padded bind perhaps words_in one
+returns-in-Ok-Some c = sym (ap (λ a. said (perhaps one (outcome a))) (c.in-Ok-Some.is ∙ ap Ok (rw c.in-Ok-Some.is at c.in-Ok-Some.field-0-is)))
 
-pub returns-in-None : goal.returns-in-None
-unfolding said padded bind perhaps words_in one parent_outcome
-returns-in-None c = sym (ap (λ a. said (perhaps one (parent_outcome a))) c.in-None.is)
+pub returns-in-Ok-None : goal.returns-in-Ok-None
+unfolding said padded bind perhaps words_in one
+returns-in-Ok-None c = sym (ap (λ a. said (perhaps one (outcome a))) (c.in-Ok-None.is ∙ ap Ok (rw c.in-Ok-None.is at c.in-Ok-None.field-0-is)))
 
-pub returns-in-Refused : goal.returns-in-Refused
-unfolding said padded bind perhaps words_in one parent_outcome
-returns-in-Refused c = c.refused.ensures ∙ perhaps_refused one _ ∙ sym (ap (λ a. said (perhaps one (parent_outcome a))) c.in-Refused.is)
+pub returns-in-Err : goal.returns-in-Err
+returns-in-Err c = c.refused.ensures ∙ perhaps_refused one _ ∙ sym (ap (λ a. said (perhaps one (outcome a))) c.in-Err.is)

@@ -1,9 +1,7 @@
 use Rattle.grammar.proofs.Laws.{end_in}
 use Rattle.grammar.proofs.Checking.{words_four, turn_on, turn_wrong, turn_end}
-use Prim.Native.Nat.{◌-◌}
 use native.Mathlib.Omega.{arith}
 use mathlib.Core.Path.{refl, sym, ◌∙◌}
-use Rattle.grammar.specs.Work.{lines_outcome}
 use Rattle.grammar.proofs.check_lines.Goals as goal
 
 pub loop-at-init : goal.loop-at-init
@@ -19,11 +17,10 @@ pub slice_bounds-lead-end : goal.slice_bounds-lead-end
 slice_bounds-lead-end c = omega (arith, end_in c.args.text.now c.loop-at.at c.line_end-end.result c.line_end-end.ensures c.loop-at-test.true)
 
 pub returns-in_default : goal.returns-in_default
-unfolding lines_outcome
 returns-in_default c = turn_wrong c.args.text.now c.loop-at.at c.line_end-end.result c.line_end-end.ensures c.loop-at-test.true c.loop-at.made c.loop-at.u c.loop-at.invariant.2 (sym c.lead.ensures ∙ c.in_default.is)
 
 pub overflow_add-made : goal.overflow_add-made
-overflow_add-made c = omega (arith, end_in c.args.text.now c.loop-at.at c.line_end-end.result c.line_end-end.ensures c.loop-at-test.true, words_four _ _ _ _ (sym c.lead.ensures ∙ c.in-On.is), c.requires)
+overflow_add-made c = omega (arith, end_in c.args.text.now c.loop-at.at c.line_end-end.result c.line_end-end.ensures c.loop-at-test.true, words_four _ _ _ _ (sym c.lead.ensures ∙ c.in-Some.is), c.requires)
 
 pub overflow_add-at : goal.overflow_add-at
 overflow_add-at c = omega (arith, end_in c.args.text.now c.loop-at.at c.line_end-end.result c.line_end-end.ensures c.loop-at-test.true, c.requires)
@@ -33,9 +30,8 @@ loop-at-smaller c = omega (arith, end_in c.args.text.now c.loop-at.at c.line_end
 
 pub loop-at-preserved : goal.loop-at-preserved
 loop-at-preserved c = let e = end_in c.args.text.now c.loop-at.at c.line_end-end.result c.line_end-end.ensures c.loop-at-test.true in
-    let w = words_four _ _ _ _ (sym c.lead.ensures ∙ c.in-On.is) in
-    (omega arith, omega arith, turn_on c.args.text.now c.loop-at.at c.line_end-end.result c.line_end-end.ensures c.loop-at-test.true c.loop-at.made c.loop-at.u c.loop-at.invariant.2 _ _ (sym c.lead.ensures ∙ c.in-On.is))
+    let w = words_four _ _ _ _ (sym c.lead.ensures ∙ c.in-Some.is) in
+    (omega arith, omega arith, turn_on c.args.text.now c.loop-at.at c.line_end-end.result c.line_end-end.ensures c.loop-at-test.true c.loop-at.made c.loop-at.u c.loop-at.invariant.2 _ _ (sym c.lead.ensures ∙ c.in-Some.is))
 
 pub returns : goal.returns
-unfolding lines_outcome
 returns c = turn_end c.args.text.now c.loop-at.at c.loop-at-test.false _ _ c.loop-at.invariant.2

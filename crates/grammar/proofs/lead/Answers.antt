@@ -9,4 +9,4 @@ pub returns-in_default : goal.returns-in_default
 returns-in_default c = lead_other _ _ (sym c.is_marker.ensures ∙ c.if-is_marker.false) _ (sym c.read_line.ensures ∙ c.in_default.is)
 
 pub returns : goal.returns
-returns c = c.with_words-2.ensures ∙ lead_record _ _ (sym c.is_marker.ensures ∙ c.if-is_marker.false) _ (sym c.read_line.ensures ∙ c.in-Record.is) _ c.in_dump.ensures
+returns c = c.with_words-2.ensures ∙ lead_record _ _ (sym c.is_marker.ensures ∙ c.if-is_marker.false) _ (sym c.read_line.ensures ∙ c.in-Ok.is) _ c.in_dump.ensures

@@ -1,6 +1,5 @@
 use Rattle.listing.proofs.Laws.{ahead_start, ahead_register, ahead_other, head_past, head_adapter, head_device, head_cut}
 use native.Mathlib.Omega.{arith}
-use Prim.Native.Nat.{◌-◌}
 use Rattle.listing.proofs.next_head.Goals as goal
 
 pub loop-i-init : goal.loop-i-init

@@ -1,6 +1,5 @@
 use Rattle.listing.proofs.Laws.{along_start, along_passed, along_other, register_past, register_cut, register_adapter, register_device, register_here}
 use native.Mathlib.Omega.{arith}
-use Prim.Native.Nat.{◌-◌}
 use Rattle.listing.proofs.next_register.Goals as goal
 
 pub loop-i-init : goal.loop-i-init

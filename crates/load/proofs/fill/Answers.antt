@@ -1,3 +1,4 @@
+use Rattle.std.proofs.lemmas.Result.{err_from_is_err_and}
 use Rattle.load.proofs.Joining.{filling_start, filling_adapter, filling_end, filling_within, filling_fault, filling_next, device_passed, route_told}
 use Rattle.load.specs.Work.{filled_rows, FilledWithin}
 use lib.ListN.{length-set}
@@ -43,21 +44,22 @@ load_device-requires c = let p = c.requires in
     let h = b.4.head c.loop-i-test.true c.if-survey-i-eq4.false in
     (h.1, b.4.entries, b.4.adapters, omega (arith, p.0, b.0), omega (arith, p.1, b.1), omega (arith, p.4, b.4.places, h.1))
 
-pub shape_of-entries-in-Refused : goal.shape_of-entries-in-Refused
-shape_of-entries-in-Refused c = c.load_device.auto.entries ∙ c.loop-i.invariant.0
+pub shape_of-entries-in_err-device : goal.shape_of-entries-in_err-device
+shape_of-entries-in_err-device c = c.load_device.auto.entries ∙ c.loop-i.invariant.0
 
-pub shape_of-adapters-in-Refused : goal.shape_of-adapters-in-Refused
-shape_of-adapters-in-Refused c = c.load_device.auto.adapters ∙ c.loop-i.invariant.1
+pub shape_of-adapters-in_err-device : goal.shape_of-adapters-in_err-device
+shape_of-adapters-in_err-device c = c.load_device.auto.adapters ∙ c.loop-i.invariant.1
 
-pub shape_of-routes-in-Refused : goal.shape_of-routes-in-Refused
-shape_of-routes-in-Refused c = c.loop-i.invariant.2
+pub shape_of-routes-in_err-device : goal.shape_of-routes-in_err-device
+shape_of-routes-in_err-device c = c.loop-i.invariant.2
 
-pub shape_of-marks-in-Refused : goal.shape_of-marks-in-Refused
-shape_of-marks-in-Refused c = c.loop-i.invariant.3
+pub shape_of-marks-in_err-device : goal.shape_of-marks-in_err-device
+shape_of-marks-in_err-device c = c.loop-i.invariant.3
 
-pub returns-in-Refused : goal.returns-in-Refused
+pub returns-in_err-device : goal.returns-in_err-device
 unfolding filled_rows FilledWithin
-returns-in-Refused c = record { rows = filling_fault _ _ _ _ _ _ _ _ _ _ _ c.loop-i.invariant.4 c.loop-i-test.true c.if-survey-i-eq4.false _ _ _ c.load_device.ensures.rows _ c.in-Refused.is; within = omega arith }
+returns-in_err-device c = let p = err_from_is_err_and c.from_residual.result c.from_residual.ensures.1 in
+    rw (p.1, p.2) (record { rows = filling_fault _ _ _ _ _ _ _ _ _ _ _ c.loop-i.invariant.4 c.loop-i-test.true c.if-survey-i-eq4.false _ _ _ c.load_device.ensures.rows _ c.in_err-device.was; within = omega arith })
 
 pub overflow_mul-routes : goal.overflow_mul-routes
 overflow_mul-routes c = omega (arith, c.word_at-high.type_inv)
@@ -83,7 +85,7 @@ pub overflow_add-place : goal.overflow_add-place
 overflow_add-place c = omega (arith, c.requires.4, c.loop-i.invariant.4.places, c.loop-i-test.true)
 
 pub loop-i-smaller : goal.loop-i-smaller
-loop-i-smaller c = let g = device_passed _ _ _ _ _ _ _ _ _ _ _ c.loop-i.invariant.4 c.loop-i-test.true c.if-survey-i-eq4.false _ _ _ c.load_device.ensures.rows _ _ _ _ c.in-Device.is c.load_device.ensures.within in
+loop-i-smaller c = let g = device_passed _ _ _ _ _ _ _ _ _ _ _ c.loop-i.invariant.4 c.loop-i-test.true c.if-survey-i-eq4.false _ _ _ c.load_device.ensures.rows _ _ _ _ c.in_ok-device.was c.load_device.ensures.within in
     omega (arith, g.forward, c.loop-i-test.true)
 
 pub loop-i-preserved : goal.loop-i-preserved
@@ -92,8 +94,8 @@ loop-i-preserved c = let b = c.loop-i.invariant in
       c.load_device.auto.entries ∙ b.0,
       c.load_device.auto.adapters ∙ b.1,
       length-set c.loop-i.routes c.loop-i.place (c.word_at-low.result + c.word_at-high.result * 4294967296) ∙ b.2,
-      length-set c.loop-i.marks c.loop-i.place c.in-Device.mark ∙ b.3,
-      filling_next _ _ _ _ _ _ _ _ _ _ _ b.4 c.loop-i-test.true c.if-survey-i-eq4.false _ _ _ c.load_device.ensures.rows _ _ _ _ _ c.in-Device.is c.load_device.ensures.within
+      length-set c.loop-i.marks c.loop-i.place c.in_ok-device.device.mark ∙ b.3,
+      filling_next _ _ _ _ _ _ _ _ _ _ _ b.4 c.loop-i-test.true c.if-survey-i-eq4.false _ _ _ c.load_device.ensures.rows _ _ _ _ _ c.in_ok-device.was c.load_device.ensures.within
           (route_told c.args.survey.now c.loop-i.i _ _ c.word_at-low.ensures c.word_at-high.ensures)
           (omega (arith, c.requires.2, b.2, b.4.places, h)) (omega (arith, c.requires.2, c.requires.3, b.3, b.4.places, h)),
     )

@@ -1,5 +1,8 @@
+use Rattle.refusal.proofs.Laws.{no_field}
+use Rattle.std.specs.Prelude.{Err}
+use Rattle.std.proofs.lemmas.Result.{err_from_is_err_and}
 use Prim.Native.Nat.{◌-◌}
-use mathlib.Core.Path.{◌∙◌}
+use mathlib.Core.Path.{◌∙◌, ap}
 use Rattle.load.specs.Work.{KeptFor}
 use Rattle.load.proofs.Entries as laws
 use Rattle.load.proofs.push_from.Goals as goal
@@ -23,20 +26,22 @@ keep-kept-requires c = ((laws.pushing_room _ _ _ _ _ _ _ _ _ _ _ _ c.loop-i.inva
 pub push_entry-requires : goal.push_entry-requires
 push_entry-requires c = let r = laws.pushing_room _ _ _ _ _ _ _ _ _ _ _ _ c.loop-i.invariant.0 c.loop-i-test.true c.requires.2 in (r.0, r.1, c.requires.3, c.requires.4)
 
-pub shape_of-entries-in_default : goal.shape_of-entries-in_default
-shape_of-entries-in_default c = c.push_entry.auto.entries ∙ c.loop-i.invariant.0.long
+pub shape_of-entries-in_err-more : goal.shape_of-entries-in_err-more
+shape_of-entries-in_err-more c = c.push_entry.auto.entries ∙ c.loop-i.invariant.0.long
 
-pub returns-in_default : goal.returns-in_default
-returns-in_default c = let r = laws.pushing_refused _ _ _ _ _ _ _ _ _ _ _ _ c.loop-i.invariant.0 c.loop-i-test.true _ _ (c.push_entry.ensures.rows _ _ c.keep-kept.ensures.1) c.in_default.is in record { rows = r.0; within = r.1 }
+pub returns-in_err-more : goal.returns-in_err-more
+returns-in_err-more c = let p = err_from_is_err_and c.from_residual.result c.from_residual.ensures.1 in
+    let r = laws.pushing_refused _ _ _ _ _ _ _ _ _ _ _ _ c.loop-i.invariant.0 c.loop-i-test.true _ _ (c.push_entry.ensures.rows _ _ c.keep-kept.ensures.1) (c.in_err-more.was ∙ ap Err (no_field _)) in
+    rw (p.1, no_field p.0) (record { rows = r.0; within = r.1 })
 
 pub next_register-i-requires-in-loop-i : goal.next_register-i-requires-in-loop-i
 next_register-i-requires-in-loop-i c = tt
 
 pub loop-i-smaller : goal.loop-i-smaller
-loop-i-smaller c = laws.pushing_less _ _ _ _ _ _ _ _ _ _ _ _ c.loop-i.invariant.0 c.loop-i-test.true _ _ (c.push_entry.ensures.rows _ _ c.keep-kept.ensures.1) c.push_entry.ensures.one_more _ _ c.in-Entries.is _ c.next_register-i-in-loop-i.ensures
+loop-i-smaller c = laws.pushing_less _ _ _ _ _ _ _ _ _ _ _ _ c.loop-i.invariant.0 c.loop-i-test.true _ _ (c.push_entry.ensures.rows _ _ c.keep-kept.ensures.1) c.push_entry.ensures.one_more _ _ c.in_ok-more.was _ c.next_register-i-in-loop-i.ensures
 
 pub loop-i-preserved : goal.loop-i-preserved
-loop-i-preserved c = (laws.pushing_on _ _ _ _ _ _ _ _ _ _ _ _ c.loop-i.invariant.0 c.loop-i-test.true _ _ (c.push_entry.ensures.rows _ _ c.keep-kept.ensures.1) c.push_entry.ensures.one_more _ _ c.in-Entries.is _ c.push_entry.auto.entries c.next_register-i-in-loop-i.ensures, c.keep-kept.ensures.0)
+loop-i-preserved c = (laws.pushing_on _ _ _ _ _ _ _ _ _ _ _ _ c.loop-i.invariant.0 c.loop-i-test.true _ _ (c.push_entry.ensures.rows _ _ c.keep-kept.ensures.1) c.push_entry.ensures.one_more _ _ c.in_ok-more.was _ c.push_entry.auto.entries c.next_register-i-in-loop-i.ensures, c.keep-kept.ensures.0)
 
 pub shape_of-entries : goal.shape_of-entries
 shape_of-entries c = c.loop-i.invariant.0.long

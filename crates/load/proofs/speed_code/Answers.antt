@@ -1,8 +1,11 @@
+use Rattle.refusal.proofs.Laws.{no_field}
+use Rattle.std.specs.Prelude.{Err}
+use mathlib.Core.Path.{◌∙◌, ap}
 use Rattle.load.proofs.Packing.{speed_told, speed_refused}
 use Rattle.load.proofs.speed_code.Goals as goal
 
-pub returns-in-Speed : goal.returns-in-Speed
-returns-in-Speed c = speed_told c.args.speed c.in-Speed.v c.speed_number.result c.in-Speed.is c.speed_number.ensures
+pub returns-in-Ok : goal.returns-in-Ok
+returns-in-Ok c = speed_told c.args.speed c.in-Ok.v c.speed_number.result c.in-Ok.is c.speed_number.ensures
 
-pub returns-in-NoField : goal.returns-in-NoField
-returns-in-NoField c = speed_refused c.args.speed c.in-NoField.is
+pub returns-in-Err-NoField : goal.returns-in-Err-NoField
+returns-in-Err-NoField c = speed_refused c.args.speed (c.in-Err-NoField.is ∙ ap Err (no_field _))

@@ -1,17 +1,22 @@
-use mathlib.Core.Path.{sym, ap}
-use Rattle.metadata.specs.Calls.{described_outcome}
+use Rattle.std.specs.Prelude.{Ok, Some, None}
+use mathlib.Core.Path.{◌≡◌, sym, ap, ◌∙◌}
 use Rattle.refusal.specs.Outcome.{bind}
+use Rattle.refusal.specs.Refusal.{outcome}
 use Rattle.answers.specs.Said.{said, padded, words_in, perhaps, one}
+use Rattle.answers.proofs.Laws.{perhaps_refused}
 use Rattle.lookups.proofs.described.Goals as goal
 
-pub returns-in-Group : goal.returns-in-Group
-unfolding said padded perhaps words_in one described_outcome bind
-returns-in-Group c = sym (ap (λ a. said (perhaps one (described_outcome a))) c.in-Group.is)
+pub returns-in-Ok-Some : goal.returns-in-Ok-Some
+unfolding said padded perhaps words_in one bind
+returns-in-Ok-Some c =
+    let found : c.in-Ok-Some.field-0 ≡ Some c.in-Ok-Some.place = rw c.in-Ok-Some.is at c.in-Ok-Some.field-0-is in
+    sym (ap (λ a. said (perhaps one (outcome a))) (c.in-Ok-Some.is ∙ ap (λ o. Ok o) found))
 
-pub returns-in-Nameless : goal.returns-in-Nameless
-unfolding said padded perhaps words_in one described_outcome bind
-returns-in-Nameless c = sym (ap (λ a. said (perhaps one (described_outcome a))) c.in-Nameless.is)
+pub returns-in-Ok-None : goal.returns-in-Ok-None
+unfolding said padded perhaps words_in one bind
+returns-in-Ok-None c =
+    let found : c.in-Ok-None.field-0 ≡ None = rw c.in-Ok-None.is at c.in-Ok-None.field-0-is in
+    sym (ap (λ a. said (perhaps one (outcome a))) (c.in-Ok-None.is ∙ ap (λ o. Ok o) found))
 
-pub returns-in-Refused : goal.returns-in-Refused
-unfolding said padded perhaps words_in one described_outcome bind
-returns-in-Refused c = sym (ap (λ a. said (perhaps one (described_outcome a))) c.in-Refused.is)
+pub returns-in-Err : goal.returns-in-Err
+returns-in-Err c = c.refused.ensures ∙ perhaps_refused one c.in-Err.refusal ∙ sym (ap (λ a. said (perhaps one (outcome a))) c.in-Err.is)

@@ -1,17 +1,13 @@
-use mathlib.Core.Path.{sym, ap}
-use Rattle.metadata.specs.Calls.{field_outcome}
+use mathlib.Core.Path.{sym, ap, ◌∙◌}
 use Rattle.refusal.specs.Outcome.{bind}
+use Rattle.refusal.specs.Refusal.{outcome}
 use Rattle.answers.specs.Said.{said, padded, always, one}
+use Rattle.answers.proofs.Laws.{always_refused}
 use Rattle.lookups.proofs.field.Goals as goal
 
-pub returns-in-Value : goal.returns-in-Value
-unfolding said padded always one field_outcome bind
-returns-in-Value c = sym (ap (λ a. said (always one (field_outcome a))) c.in-Value.is)
+pub returns-in-Ok : goal.returns-in-Ok
+unfolding said padded always one bind
+returns-in-Ok c = sym (ap (λ a. said (always one (outcome a))) c.in-Ok.is)
 
-pub returns-in-Refused : goal.returns-in-Refused
-unfolding said padded always one field_outcome bind
-returns-in-Refused c = sym (ap (λ a. said (always one (field_outcome a))) c.in-Refused.is)
-
-pub returns-in-NoField : goal.returns-in-NoField
-unfolding said padded always one field_outcome bind
-returns-in-NoField c = sym (ap (λ a. said (always one (field_outcome a))) c.in-NoField.is)
+pub returns-in-Err : goal.returns-in-Err
+returns-in-Err c = c.refused.ensures ∙ always_refused one c.in-Err.refusal ∙ sym (ap (λ a. said (always one (outcome a))) c.in-Err.is)

@@ -16,12 +16,12 @@ returns-in_default c = laws.adapter_none _ _ (sym c.is_text.ensures ∙ not-fals
 
 pub returns-then-number-lt1 : goal.returns-then-number-lt1
 unfolding bytes_of marker_by
-returns-then-number-lt1 c = laws.adapter_zero _ _ (sym c.is_text.ensures ∙ not-false _ (ap (λ b. not b) c.if-not-is_text.false)) _ (sym c.parse_decimal.ensures ∙ c.in-Value.is) c.if-number-lt1.true
+returns-then-number-lt1 c = laws.adapter_zero _ _ (sym c.is_text.ensures ∙ not-false _ (ap (λ b. not b) c.if-not-is_text.false)) _ (sym c.parse_decimal.ensures ∙ c.in-Some.is) c.if-number-lt1.true
 
 pub returns-then-number-gt255 : goal.returns-then-number-gt255
 unfolding bytes_of marker_by
-returns-then-number-gt255 c = laws.adapter_large _ _ (sym c.is_text.ensures ∙ not-false _ (ap (λ b. not b) c.if-not-is_text.false)) _ (sym c.parse_decimal.ensures ∙ c.in-Value.is) c.if-number-lt1.false c.if-number-gt255.true
+returns-then-number-gt255 c = laws.adapter_large _ _ (sym c.is_text.ensures ∙ not-false _ (ap (λ b. not b) c.if-not-is_text.false)) _ (sym c.parse_decimal.ensures ∙ c.in-Some.is) c.if-number-lt1.false c.if-number-gt255.true
 
 pub returns : goal.returns
 unfolding bytes_of marker_by
-returns c = laws.adapter_is _ _ (sym c.is_text.ensures ∙ not-false _ (ap (λ b. not b) c.if-not-is_text.false)) _ (sym c.parse_decimal.ensures ∙ c.in-Value.is) c.if-number-lt1.false c.if-number-gt255.false
+returns c = laws.adapter_is _ _ (sym c.is_text.ensures ∙ not-false _ (ap (λ b. not b) c.if-not-is_text.false)) _ (sym c.parse_decimal.ensures ∙ c.in-Some.is) c.if-number-lt1.false c.if-number-gt255.false

@@ -8,4 +8,4 @@ pub returns-in_default : goal.returns-in_default
 returns-in_default c = calls.field_lacks _ _ _ c.stands_at.ensures _ _ c.if-not-stands_at.false _ c.find_field.ensures c.in_default.is
 
 pub returns : goal.returns
-returns c = calls.field_has _ _ _ c.stands_at.ensures _ _ c.if-not-stands_at.false _ c.find_field.ensures _ _ _ c.in-Bits.is c.bits.ensures
+returns c = calls.field_has _ _ _ c.stands_at.ensures _ _ c.if-not-stands_at.false _ c.find_field.ensures _ _ c.in-Some.is c.bits.ensures

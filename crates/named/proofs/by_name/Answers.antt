@@ -1,4 +1,3 @@
-use Prim.Native.Nat.{◌-◌}
 use native.Mathlib.Omega.{arith}
 use Rattle.named.proofs.Laws as laws
 use Rattle.named.proofs.by_name.Goals as goal
@@ -15,8 +14,8 @@ overflow_add-i-in-loop-i c = omega (arith, c.loop-i.invariant.room c.loop-i-test
 pub name_group-found-requires : goal.name_group-found-requires
 name_group-found-requires c = c.offsets_named-o.ensures
 
-pub returns-in-At : goal.returns-in-At
-returns-in-At c = let r = laws.seek_at _ _ _ _ _ _ _ c.loop-i.invariant c.loop-i-test.true _ _ c.word_at-ids.ensures c.word_at-vs.ensures _ c.name_group-found.ensures _ c.in-At.is in record { answer = r.0; within = r.1 }
+pub returns-in-Some : goal.returns-in-Some
+returns-in-Some c = let r = laws.seek_at _ _ _ _ _ _ _ c.loop-i.invariant c.loop-i-test.true _ _ c.word_at-ids.ensures c.word_at-vs.ensures _ c.name_group-found.ensures _ c.in-Some.is in record { answer = r.0; within = r.1 }
 
 pub overflow_add-i-in-loop-i-2 : goal.overflow_add-i-in-loop-i-2
 overflow_add-i-in-loop-i-2 c = omega (arith, c.loop-i.invariant.room c.loop-i-test.true)

@@ -15,7 +15,7 @@ pub returns-in_default : goal.returns-in_default
 returns-in_default c = laws.group_none _ _ _ _ c.find_group.ensures c.in_default.is
 
 pub returns-then-not-name_is : goal.returns-then-not-name_is
-returns-then-not-name_is c = laws.group_other _ _ _ _ c.find_group.ensures _ c.in-At.is _ c.name_is.ensures c.if-not-name_is.true
+returns-then-not-name_is c = laws.group_other _ _ _ _ c.find_group.ensures _ c.in-Some.is _ c.name_is.ensures c.if-not-name_is.true
 
 pub returns : goal.returns
-returns c = laws.group_at_lem _ _ _ _ c.find_group.ensures _ c.in-At.is _ c.name_is.ensures c.if-not-name_is.false
+returns c = laws.group_at_lem _ _ _ _ c.find_group.ensures _ c.in-Some.is _ c.name_is.ensures c.if-not-name_is.false

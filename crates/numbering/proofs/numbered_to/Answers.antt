@@ -1,6 +1,5 @@
 use mathlib.Core.Path.{refl}
 use Rattle.numbering.proofs.Laws as laws
-use Prim.Native.Nat.{◌-◌}
 use native.Mathlib.Omega.{arith}
 use Rattle.numbering.proofs.numbered_to.Goals as goal
 

@@ -1,5 +1,9 @@
+use Rattle.refusal.proofs.Laws.{ok_same, err_no_ok}
+use mathlib.Core.Path.{sym, ◌≡◌}
+use Prim.Native.Nat.{ℕ}
+use Rattle.std.specs.Prelude.{Ok}
 use Prim.Native.Nat.{◌+◌, ◌*◌, ◌-◌}
-use mathlib.Core.Path.{refl, ◌∙◌}
+use mathlib.Core.Path.{refl, ap, ◌∙◌}
 use native.Mathlib.Omega.{arith}
 use lib.ListN.{set, length-set}
 use Rattle.path.proofs.Writing.{stood, kept_start, kept_full, kept_missing, kept_on, kept_last}
@@ -32,11 +36,17 @@ bounds-output-i-in-loop-i c = omega (arith, c.loop-i.invariant.long, c.loop-i-te
 pub shape_of-output-in_default-leads : goal.shape_of-output-in_default-leads
 shape_of-output-in_default-leads c = length-set (set c.loop-i.output (1 + 2 * c.loop-i.i) c.hop_word.result) (2 + 2 * c.loop-i.i) _ ∙ length-set c.loop-i.output (1 + 2 * c.loop-i.i) _ ∙ c.loop-i.invariant.long
 
+pub shape_of-output-in_default-next : goal.shape_of-output-in_default-next
+shape_of-output-in_default-next c = length-set (set c.loop-i.output (1 + 2 * c.loop-i.i) c.hop_word.result) (2 + 2 * c.loop-i.i) _ ∙ length-set c.loop-i.output (1 + 2 * c.loop-i.i) _ ∙ c.loop-i.invariant.long
+
 pub returns-in_default-leads : goal.returns-in_default-leads
-returns-in_default-leads c = kept_last _ _ _ _ _ _ _ _ _ _ _ c.loop-i.invariant c.loop-i-test.true _ c.find_entry.ensures _ _ _ _ c.in-Entry.is c.hop_word.ensures refl _ c.leads.ensures c.in_default-leads.not-On
+returns-in_default-leads c = kept_last _ _ _ _ _ _ _ _ _ _ _ c.loop-i.invariant c.loop-i-test.true _ c.find_entry.ensures _ _ _ _ c.in-Some.is c.hop_word.ensures refl _ c.leads.ensures (λ q b e. err_no_ok _ _ (sym c.in_default-leads.is ∙ e))
+
+pub returns-in_default-next : goal.returns-in_default-next
+returns-in_default-next c = kept_last _ _ _ _ _ _ _ _ _ _ _ c.loop-i.invariant c.loop-i-test.true _ c.find_entry.ensures _ _ _ _ c.in-Some.is c.hop_word.ensures refl _ c.leads.ensures (λ q b e. c.in_default-next.not-On q b (ok_same _ _ (sym c.in-Ok.is ∙ e)))
 
 pub loop-i-preserved : goal.loop-i-preserved
-loop-i-preserved c = kept_on _ _ _ _ _ _ _ _ _ _ _ c.loop-i.invariant c.loop-i-test.true _ c.find_entry.ensures _ _ _ _ c.in-Entry.is c.hop_word.ensures refl _ c.leads.ensures _ _ (omega arith) c.in-On.is
+loop-i-preserved c = kept_on _ _ _ _ _ _ _ _ _ _ _ c.loop-i.invariant c.loop-i-test.true _ c.find_entry.ensures _ _ _ _ c.in-Some.is c.hop_word.ensures refl _ c.leads.ensures _ _ (omega arith) (c.in-Ok.is ∙ ap Ok c.in-On.is)
 
 pub shape_of-output : goal.shape_of-output
 shape_of-output c = c.loop-i.invariant.long

@@ -1,4 +1,6 @@
-use mathlib.Core.Path.{sym}
+use Rattle.std.proofs.lemmas.Result.{err_from_is_err_and}
+use Rattle.std.specs.Prelude.{Ok}
+use mathlib.Core.Path.{sym, ap, ◌∙◌}
 use native.Mathlib.Omega.{arith}
 use lib.Seq.{length-take-le}
 use Rattle.path.proofs.Answering.{put_larger, hops_few, put_refused, put_absent, put_short, put_whole}
@@ -11,22 +13,20 @@ pub returns-then-routes-gt-MOST_DEVICES : goal.returns-then-routes-gt-MOST_DEVIC
 returns-then-routes-gt-MOST_DEVICES c = put_larger _ _ _ _ _ _ _ (λ z. omega (arith, z.devices, c.if-routes-gt-MOST_DEVICES.true))
 
 pub overflow_mul-need : goal.overflow_mul-need
-overflow_mul-need c = omega (arith, hops_few _ _ _ _ _ _ (record { entries = omega (arith, c.if-entries-gt-MOST_ENTRIES.false); devices = omega (arith, c.if-routes-gt-MOST_DEVICES.false) }) c.tally.ensures _ _ _ _ c.in-Path.is)
+overflow_mul-need c = omega (arith, hops_few _ _ _ _ _ _ (record { entries = omega (arith, c.if-entries-gt-MOST_ENTRIES.false); devices = omega (arith, c.if-routes-gt-MOST_DEVICES.false) }) c.tally.ensures _ _ _ _ (c.in_ok-walked.was ∙ ap Ok c.in-Some.is))
 
 pub overflow_add-need : goal.overflow_add-need
-overflow_add-need c = omega (arith, hops_few _ _ _ _ _ _ (record { entries = omega (arith, c.if-entries-gt-MOST_ENTRIES.false); devices = omega (arith, c.if-routes-gt-MOST_DEVICES.false) }) c.tally.ensures _ _ _ _ c.in-Path.is)
+overflow_add-need c = omega (arith, hops_few _ _ _ _ _ _ (record { entries = omega (arith, c.if-entries-gt-MOST_ENTRIES.false); devices = omega (arith, c.if-routes-gt-MOST_DEVICES.false) }) c.tally.ensures _ _ _ _ (c.in_ok-walked.was ∙ ap Ok c.in-Some.is))
 
 pub returns-then-output-need : goal.returns-then-output-need
-returns-then-output-need c = put_short _ _ _ _ _ _ _ _ (record { entries = omega (arith, c.if-entries-gt-MOST_ENTRIES.false); devices = omega (arith, c.if-routes-gt-MOST_DEVICES.false) }) c.tally.ensures _ _ _ _ c.in-Path.is c.if-output-need.true
+returns-then-output-need c = put_short _ _ _ _ _ _ _ _ (record { entries = omega (arith, c.if-entries-gt-MOST_ENTRIES.false); devices = omega (arith, c.if-routes-gt-MOST_DEVICES.false) }) c.tally.ensures _ _ _ _ (c.in_ok-walked.was ∙ ap Ok c.in-Some.is) c.if-output-need.true
 
-pub slice_bounds-put_walk-end-in-Path : goal.slice_bounds-put_walk-end-in-Path
-slice_bounds-put_walk-end-in-Path c = sym (length-take-le _ _ c.if-output-need.false)
+pub returns-in_err-walked : goal.returns-in_err-walked
+returns-in_err-walked c = let p = err_from_is_err_and c.from_residual.result c.from_residual.ensures.1 in
+    rw (p.1, p.2) (put_refused _ _ _ _ _ _ _ _ (record { entries = omega (arith, c.if-entries-gt-MOST_ENTRIES.false); devices = omega (arith, c.if-routes-gt-MOST_DEVICES.false) }) c.tally.ensures _ c.in_err-walked.was)
 
-pub returns-in-Refused : goal.returns-in-Refused
-returns-in-Refused c = put_refused _ _ _ _ _ _ _ _ (record { entries = omega (arith, c.if-entries-gt-MOST_ENTRIES.false); devices = omega (arith, c.if-routes-gt-MOST_DEVICES.false) }) c.tally.ensures _ c.in-Refused.is
+pub returns-in_default : goal.returns-in_default
+returns-in_default c = put_absent _ _ _ _ _ _ _ _ (record { entries = omega (arith, c.if-entries-gt-MOST_ENTRIES.false); devices = omega (arith, c.if-routes-gt-MOST_DEVICES.false) }) c.tally.ensures (c.in_ok-walked.was ∙ ap Ok c.in_default.is)
 
-pub returns-in-Absent : goal.returns-in-Absent
-returns-in-Absent c = put_absent _ _ _ _ _ _ _ _ (record { entries = omega (arith, c.if-entries-gt-MOST_ENTRIES.false); devices = omega (arith, c.if-routes-gt-MOST_DEVICES.false) }) c.tally.ensures c.in-Absent.is
-
-pub returns-else-output-need : goal.returns-else-output-need
-returns-else-output-need c = put_whole _ _ _ _ _ _ c.args.output.now _ (record { entries = omega (arith, c.if-entries-gt-MOST_ENTRIES.false); devices = omega (arith, c.if-routes-gt-MOST_DEVICES.false) }) c.tally.ensures _ _ _ _ c.in-Path.is c.put_walk.new.output c.put_walk.result c.if-output-need.false c.put_walk.auto.output c.put_walk.ensures
+pub returns : goal.returns
+returns c = put_whole _ _ _ _ _ _ c.args.output.now _ (record { entries = omega (arith, c.if-entries-gt-MOST_ENTRIES.false); devices = omega (arith, c.if-routes-gt-MOST_DEVICES.false) }) c.tally.ensures _ _ _ _ (c.in_ok-walked.was ∙ ap Ok c.in-Some.is) c.put_walk.new.output c.put_walk.result c.if-output-need.false c.put_walk.auto.output c.put_walk.ensures

@@ -9,4 +9,4 @@ returns-in_default c = laws.no_fields _ _ _ c.find_group.ensures c.in_default.is
 
 pub returns : goal.returns
 unfolding bytes_of fields_for
-returns c = laws.its_fields _ _ _ c.find_group.ensures _ c.in-At.is _ _ _ c.find_flag.ensures c.find_field.ensures c.find_field-2.ensures
+returns c = laws.its_fields _ _ _ c.find_group.ensures _ c.in-Some.is _ _ _ c.find_flag.ensures c.find_field.ensures c.find_field-2.ensures

@@ -1,4 +1,3 @@
-use Prim.Native.Nat.{◌-◌}
 use native.Mathlib.Omega.{arith}
 use Rattle.print.proofs.Laws.{same_long}
 use Rattle.printed.proofs.Laws.{none_yet, one_more, all_put}

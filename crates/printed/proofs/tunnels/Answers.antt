@@ -1,5 +1,4 @@
 use Rattle.printed.proofs.Laws.{none_counted, count_tunnel, count_other, counted_all}
-use Prim.Native.Nat.{◌-◌}
 use native.Mathlib.Omega.{arith}
 use Rattle.printed.proofs.tunnels.Goals as goal
 use Rattle.printed.proofs.tunnels.Goals.{then-words-i-eq8, else-words-i-eq8}

@@ -1,20 +1,11 @@
-use mathlib.Core.Path.{ap}
-use Rattle.text.specs.Text.{text_outcome}
+use Rattle.std.proofs.lemmas.Result.{err_from_is_err_and}
 use Rattle.program.proofs.Opening.{read_refused, read_words}
 use Rattle.program.proofs.answer_of.Goals as goal
 
-pub returns-in-Words : goal.returns-in-Words
-unfolding text_outcome
-returns-in-Words c = read_words _ _ _ _ (ap text_outcome c.in-Words.is) c.try_loaded.ensures
+pub returns-in_err-read : goal.returns-in_err-read
+returns-in_err-read c =
+    let p = err_from_is_err_and c.from_residual.result c.from_residual.ensures.1 in
+    rw (p.1, p.2) (read_refused _ _ _ c.in_err-read.was)
 
-pub returns-in-Short : goal.returns-in-Short
-unfolding text_outcome
-returns-in-Short c = read_refused _ _ _ _ _ (ap text_outcome c.in-Short.is) (c.refused.ensures _ _ _ _)
-
-pub returns-in-NotAscii : goal.returns-in-NotAscii
-unfolding text_outcome
-returns-in-NotAscii c = read_refused _ _ _ _ _ (ap text_outcome c.in-NotAscii.is) (c.refused-in-NotAscii.ensures _ _ _ _)
-
-pub returns-in-Wrong : goal.returns-in-Wrong
-unfolding text_outcome
-returns-in-Wrong c = read_refused _ _ _ _ _ (ap text_outcome c.in-Wrong.is) (c.refused-in-Wrong.ensures _ _ _ _)
+pub returns : goal.returns
+returns c = read_words _ _ _ _ c.in_ok-read.was c.try_loaded.ensures

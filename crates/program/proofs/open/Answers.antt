@@ -6,10 +6,10 @@ use borrow.Author.Rules.{rules}
 use Rattle.program.proofs.open.Goals as goal
 
 pub slice_bounds-survey-end : goal.slice_bounds-survey-end
-slice_bounds-survey-end c = omega (arith, few_words _ _ (search rules) _ _ c.read-read.ensures, c.words_in-n.ensures)
+slice_bounds-survey-end c = omega (arith, few_words _ _ (search rules) _ _ c.read-read.ensures, c.unwrap_or-n.ensures)
 
 pub slice_bounds-load-end-2 : goal.slice_bounds-load-end-2
-slice_bounds-load-end-2 c = sym (length-take-le _ _ (omega (arith, few_words _ _ (search rules) _ _ c.read-read.ensures, c.words_in-n.ensures)))
+slice_bounds-load-end-2 c = sym (length-take-le _ _ (omega (arith, few_words _ _ (search rules) _ _ c.read-read.ensures, c.unwrap_or-n.ensures)))
 
 pub returns : goal.returns
-returns c = opens_read _ _ (search rules) _ _ c.read-read.ensures c.load-loaded.result _ _ _ c.ours-ours.ensures c.words_in-n.ensures c.load-loaded.ensures.answer c.answer_of-answer.ensures
+returns c = opens_read _ _ (search rules) _ _ c.read-read.ensures c.load-loaded.result _ _ _ c.ours-ours.ensures c.unwrap_or-n.ensures c.load-loaded.ensures.answer c.answer_of-answer.ensures

@@ -1,3 +1,4 @@
+use Rattle.std.proofs.lemmas.Result.{err_from_is_err_and}
 use native.Mathlib.Omega.{arith}
 use Rattle.load.specs.Answers.{Usable}
 use Rattle.load.specs.declared.Loaded.{Loaded}
@@ -11,22 +12,24 @@ use Rattle.program.proofs.try_loaded.Goals as goal
 pub try_used-requires : goal.try_used-requires
 try_used-requires c =
     let a = c.args in
-    let n = c.in-Tables in
+    let n = c.in_ok-counts.counts in
     let all : Loaded = record { answer = a.told; entries = a.entries.now; adapters = a.adapters.now; routes = a.routes.now; marks = a.marks.now } in
-    let ready : Usable all n.e n.a n.d = usable all _ _ _ n.is c.requires in
-    let held : Held all n.e n.a n.d = within all _ _ _ ready (omega arith) (omega arith) (omega arith) (omega arith) in
+    let ready : Usable all n.entries n.adapters n.devices = usable all _ _ _ c.in_ok-counts.was c.requires in
+    let held : Held all n.entries n.adapters n.devices = within all _ _ _ ready (omega arith) (omega arith) (omega arith) (omega arith) in
     (held.entries, held.adapters, held.routes, held.marks)
 
-pub returns-in-Refused : goal.returns-in-Refused
+pub returns-in_err-counts : goal.returns-in_err-counts
 unfolding OpensFrom
-returns-in-Refused c = λ t s our same. not_loaded _ t s our same _ c.in-Refused.is _ c.numbers_of.ensures _ _ _ _
+returns-in_err-counts c = λ t s our same.
+    let p = err_from_is_err_and c.from_residual.result c.from_residual.ensures.1 in
+    rw (p.1, p.2) (not_loaded _ t s our same _ c.in_err-counts.was _ _ _ _)
 
-pub returns-in-Tables : goal.returns-in-Tables
+pub returns : goal.returns
 unfolding OpensFrom
-returns-in-Tables c = λ t s our same.
+returns c = λ t s our same.
     let a = c.args in
-    let n = c.in-Tables in
+    let n = c.in_ok-counts.counts in
     let all : Loaded = record { answer = a.told; entries = a.entries.now; adapters = a.adapters.now; routes = a.routes.now; marks = a.marks.now } in
-    let ready : Usable all n.e n.a n.d = usable all _ _ _ n.is c.requires in
-    let held : Held all n.e n.a n.d = within all _ _ _ ready (omega arith) (omega arith) (omega arith) (omega arith) in
-    tried_all all t s our same _ _ _ n.is ready held _ c.try_used.ensures
+    let ready : Usable all n.entries n.adapters n.devices = usable all _ _ _ c.in_ok-counts.was c.requires in
+    let held : Held all n.entries n.adapters n.devices = within all _ _ _ ready (omega arith) (omega arith) (omega arith) (omega arith) in
+    tried_all all t s our same _ _ _ c.in_ok-counts.was ready held _ c.try_used.ensures

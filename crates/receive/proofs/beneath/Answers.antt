@@ -13,21 +13,21 @@ returns-in_default c = λ p. record { is = λ k es. no_router _ _ _ (ap (device_
 
 pub returns-in_default-downstream_adapter : goal.returns-in_default-downstream_adapter
 unfolding lane_outcome rows_with device_row device_found below
-returns-in_default-downstream_adapter c = λ p. record { is = λ k es. let there = (ap (device_found _) (sym c.in-Device.is) ∙ c.find_device.ensures) in beneath_by _ _ _ _ _ _ there c.downstream_adapter.ensures c.in_default-downstream_adapter.is }
+returns-in_default-downstream_adapter c = λ p. record { is = λ k es. let there = (ap (device_found _) (sym c.in-Some.is) ∙ c.find_device.ensures) in beneath_by _ _ _ _ _ _ there c.downstream_adapter.ensures c.in_default-downstream_adapter.is }
 
 pub returns-in_default-find_adapter : goal.returns-in_default-find_adapter
 unfolding lane_outcome rows_with device_row device_found adapter_found or_dropped
 returns-in_default-find_adapter c = λ p. record {
-  is = λ k es. let there = (ap (device_found _) (sym c.in-Device.is) ∙ c.find_device.ensures) in
+  is = λ k es. let there = (ap (device_found _) (sym c.in-Some.is) ∙ c.find_device.ensures) in
       beneath_at _ _ _ _ (ap (adapter_found _) (sym c.in_default-find_adapter.is) ∙ c.find_adapter.ensures.first (device_fits _ _ _ _ _ k there) k.adapters)
-      ∙ beneath_by _ _ _ _ _ _ there c.downstream_adapter.ensures c.in-Adapter.is;
+      ∙ beneath_by _ _ _ _ _ _ there c.downstream_adapter.ensures c.in-Some-downstream_adapter.is;
 }
 
 pub returns : goal.returns
 unfolding lane_outcome rows_with device_row device_found adapter_found or_dropped
 returns c = λ p. record {
-  is = λ k es. let there = (ap (device_found _) (sym c.in-Device.is) ∙ c.find_device.ensures) in
+  is = λ k es. let there = (ap (device_found _) (sym c.in-Some.is) ∙ c.find_device.ensures) in
       c.hops_of.ensures
-      ∙ beneath_at _ _ _ _ (ap (adapter_found _) (sym c.in-Adapter-find_adapter.is) ∙ c.find_adapter.ensures.first (device_fits _ _ _ _ _ k there) k.adapters)
-      ∙ beneath_by _ _ _ _ _ _ there c.downstream_adapter.ensures c.in-Adapter.is;
+      ∙ beneath_at _ _ _ _ (ap (adapter_found _) (sym c.in-Some-find_adapter.is) ∙ c.find_adapter.ensures.first (device_fits _ _ _ _ _ k there) k.adapters)
+      ∙ beneath_by _ _ _ _ _ _ there c.downstream_adapter.ensures c.in-Some-downstream_adapter.is;
 }

@@ -1,3 +1,5 @@
+use Rattle.std.specs.Prelude.{Ok}
+use Rattle.std.proofs.lemmas.Result.{err_from_is_err_and}
 use mathlib.Core.Path.{sym, ap, ◌∙◌}
 use Rattle.tables.specs.Found.{device_found, device_row}
 use Rattle.fabric.specs.Tables.{rows_with}
@@ -14,25 +16,27 @@ returns-in_default c = record { is = λ k es. lane_nowhere _ _ (ap (device_found
 
 pub returns-then-not-taken : goal.returns-then-not-taken
 unfolding lane_outcome rows_with device_row device_found
-returns-then-not-taken c = record { is = λ k es. lane_left _ _ _ (ap (device_found _) (sym c.in-Device.is) ∙ c.find_device.ensures) (sym (c.taken.ensures _) ∙ not-true c.taken.result (ap (λ b. not b) c.if-not-taken.true)) }
+returns-then-not-taken c = record { is = λ k es. lane_left _ _ _ (ap (device_found _) (sym c.in-Some.is) ∙ c.find_device.ensures) (sym (c.taken.ensures _) ∙ not-true c.taken.result (ap (λ b. not b) c.if-not-taken.true)) }
 
-pub returns-in-Refused : goal.returns-in-Refused
+pub returns-in_err-parent : goal.returns-in_err-parent
 unfolding lane_outcome rows_with device_row device_found
-returns-in-Refused c = record {
-  is = λ k es. let at = (ap (device_found _) (sym c.in-Device.is) ∙ c.find_device.ensures) in
-      lane_refused _ _ _ at (sym (c.taken.ensures _) ∙ not-false c.taken.result (ap (λ b. not b) c.if-not-taken.false)) _ (c.parent_of.ensures.is k (device_fits _ _ _ _ _ k at) es) _ c.in-Refused.is;
+returns-in_err-parent c =
+    let p = err_from_is_err_and c.from_residual.result c.from_residual.ensures.1 in
+    rw (p.1, p.2) record {
+      is = λ k es. let at = (ap (device_found _) (sym c.in-Some.is) ∙ c.find_device.ensures) in
+          lane_refused _ _ _ at (sym (c.taken.ensures _) ∙ not-false c.taken.result (ap (λ b. not b) c.if-not-taken.false)) _ (c.parent_of.ensures.is k (device_fits _ _ _ _ _ k at) es) _ c.in_err-parent.was;
+    }
+
+pub returns-in_default-parent : goal.returns-in_default-parent
+unfolding lane_outcome rows_with device_row device_found
+returns-in_default-parent c = record {
+  is = λ k es. let at = (ap (device_found _) (sym c.in-Some.is) ∙ c.find_device.ensures) in
+      lane_alone _ _ _ at (sym (c.taken.ensures _) ∙ not-false c.taken.result (ap (λ b. not b) c.if-not-taken.false)) _ (c.parent_of.ensures.is k (device_fits _ _ _ _ _ k at) es) (c.in_ok-parent.was ∙ ap Ok c.in_default-parent.is);
 }
 
-pub returns-in-None : goal.returns-in-None
+pub returns : goal.returns
 unfolding lane_outcome rows_with device_row device_found
-returns-in-None c = record {
-  is = λ k es. let at = (ap (device_found _) (sym c.in-Device.is) ∙ c.find_device.ensures) in
-      lane_alone _ _ _ at (sym (c.taken.ensures _) ∙ not-false c.taken.result (ap (λ b. not b) c.if-not-taken.false)) _ (c.parent_of.ensures.is k (device_fits _ _ _ _ _ k at) es) c.in-None.is;
-}
-
-pub returns-in-Place : goal.returns-in-Place
-unfolding lane_outcome rows_with device_row device_found
-returns-in-Place c = record {
-  is = λ k es. let at = (ap (device_found _) (sym c.in-Device.is) ∙ c.find_device.ensures) in
-      lane_under _ _ _ at (sym (c.taken.ensures _) ∙ not-false c.taken.result (ap (λ b. not b) c.if-not-taken.false)) _ (c.parent_of.ensures.is k (device_fits _ _ _ _ _ k at) es) _ c.in-Place.is ((c.beneath.ensures c.args.place).is k es);
+returns c = record {
+  is = λ k es. let at = (ap (device_found _) (sym c.in-Some.is) ∙ c.find_device.ensures) in
+      lane_under _ _ _ at (sym (c.taken.ensures _) ∙ not-false c.taken.result (ap (λ b. not b) c.if-not-taken.false)) _ (c.parent_of.ensures.is k (device_fits _ _ _ _ _ k at) es) _ (c.in_ok-parent.was ∙ ap Ok c.in-Some-parent.is) ((c.beneath.ensures c.args.place).is k es);
 }

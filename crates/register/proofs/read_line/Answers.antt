@@ -1,4 +1,4 @@
-use Rattle.scan.proofs.Laws.{nth_next, spans}
+use Rattle.scan.proofs.Laws.{part_nth, nth_next, spans}
 use Rattle.register.proofs.Laws.{is_comment_lem, is_few, is_four, is_five}
 use mathlib.Core.Path.{◌≡◌, sym, ◌∙◌}
 use native.Mathlib.Omega.{arith}
@@ -13,30 +13,15 @@ pub returns-then-s-d : goal.returns-then-s-d
 returns-then-s-d c = let n = spans c.args.s.now _ _ _ _ c.token-a.ensures c.token-b.ensures c.token-c.ensures c.token-d.ensures in
     sym (is_few c.args.s.now (sym c.is_comment.ensures ∙ c.if-is_comment.false) (omega (arith, n.n3.missing c.if-s-d.true)))
 
-pub part-ta-requires : goal.part-ta-requires
-part-ta-requires c = let n = (spans c.args.s.now _ _ _ _ c.token-a.ensures c.token-b.ensures c.token-c.ensures c.token-d.ensures).n0 in (n.ordered, n.within)
-
-pub part-tb-requires : goal.part-tb-requires
-part-tb-requires c = let n = (spans c.args.s.now _ _ _ _ c.token-a.ensures c.token-b.ensures c.token-c.ensures c.token-d.ensures).n1 in (n.ordered, n.within)
-
-pub part-td-requires : goal.part-td-requires
-part-td-requires c = let n = (spans c.args.s.now _ _ _ _ c.token-a.ensures c.token-b.ensures c.token-c.ensures c.token-d.ensures).n3 in (n.ordered, n.within)
-
 pub returns-then-s-e : goal.returns-then-s-e
 returns-then-s-e c = let s = c.args.s.now in
     let n = spans c.args.s.now _ _ _ _ c.token-a.ensures c.token-b.ensures c.token-c.ensures c.token-d.ensures in
     let n4 = nth_next n.n3 _ c.token-e.ensures in
     let l : length (tokens s) ≡ 4 = omega (arith, n.n3.there c.if-s-d.false, n4.missing c.if-s-e.true) in
-    c.four_tokens.ensures ∙ is_four s (sym c.is_comment.ensures ∙ c.if-is_comment.false) l _ _ _ (c.part-ta.ensures ∙ n.n0.text) (c.part-tb.ensures ∙ n.n1.text) (c.part-td.ensures ∙ n.n3.text)
-
-pub part-requires : goal.part-requires
-part-requires c = let n = (spans c.args.s.now _ _ _ _ c.token-a.ensures c.token-b.ensures c.token-c.ensures c.token-d.ensures).n2 in (n.ordered, n.within)
-
-pub part-requires-2 : goal.part-requires-2
-part-requires-2 c = let n = nth_next (spans c.args.s.now _ _ _ _ c.token-a.ensures c.token-b.ensures c.token-c.ensures c.token-d.ensures).n3 _ c.token-e.ensures in (n.ordered, n.within)
+    c.four_tokens.ensures ∙ is_four s (sym c.is_comment.ensures ∙ c.if-is_comment.false) l _ _ _ (c.part-ta.ensures ∙ part_nth _ n.n0) (c.part-tb.ensures ∙ part_nth _ n.n1) (c.part-td.ensures ∙ part_nth _ n.n3)
 
 pub returns : goal.returns
 returns c = let s = c.args.s.now in
     let n = spans c.args.s.now _ _ _ _ c.token-a.ensures c.token-b.ensures c.token-c.ensures c.token-d.ensures in
     let n4 = nth_next n.n3 _ c.token-e.ensures in
-    c.five_tokens.ensures ∙ is_five s (sym c.is_comment.ensures ∙ c.if-is_comment.false) (n4.there c.if-s-e.false) _ _ _ _ _ (c.part-ta.ensures ∙ n.n0.text) (c.part-tb.ensures ∙ n.n1.text) (c.part.ensures ∙ n.n2.text) (c.part-td.ensures ∙ n.n3.text) (c.part-2.ensures ∙ n4.text)
+    c.five_tokens.ensures ∙ is_five s (sym c.is_comment.ensures ∙ c.if-is_comment.false) (n4.there c.if-s-e.false) _ _ _ _ _ (c.part-ta.ensures ∙ part_nth _ n.n0) (c.part-tb.ensures ∙ part_nth _ n.n1) (c.part.ensures ∙ part_nth _ n.n2) (c.part-td.ensures ∙ part_nth _ n.n3) (c.part-2.ensures ∙ part_nth _ n4)

@@ -1,7 +1,5 @@
-use Rattle.adapters.specs.Calls.{info_in}
 use Rattle.replies.proofs.Laws.{info_said}
 use Rattle.replies.proofs.info.Goals as goal
 
 pub returns : goal.returns
-unfolding info_in
-returns c = info_said (info_in _) _ _ _ _ _ _ c.type_number.ensures c.state_number.ensures c.bit.ensures c.bit-2.ensures c.hop_or.ensures c.bit-3.ensures
+returns c = info_said _ _ _ _ _ _ _ c.type_number.ensures c.state_number.ensures c.bit.ensures c.bit-2.ensures c.hop_or.ensures c.bit-3.ensures

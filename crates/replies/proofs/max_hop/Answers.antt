@@ -1,18 +1,22 @@
-use mathlib.Core.Path.{sym, ap, ◌∙◌}
+use mathlib.Core.Path.{◌≡◌, sym, ap, ◌∙◌}
+use Rattle.std.specs.Prelude.{Ok, Some, None}
 use Rattle.refusal.specs.Outcome.{bind}
-use Rattle.adapters.specs.Calls.{max_hop_outcome}
+use Rattle.refusal.specs.Refusal.{outcome}
 use Rattle.answers.specs.Said.{said, padded, words_in, perhaps, one}
-use Rattle.replies.proofs.Laws.{perhaps_refused}
+use Rattle.answers.proofs.Laws.{perhaps_refused}
 use Rattle.replies.proofs.max_hop.Goals as goal
 
-pub returns-in-Hop : goal.returns-in-Hop
-unfolding said padded bind perhaps words_in one max_hop_outcome
-returns-in-Hop c = c.result.ensures ∙ sym (ap (λ a. said (perhaps one (max_hop_outcome a))) c.in-Hop.is)
+pub returns-in-Ok-Some : goal.returns-in-Ok-Some
+unfolding bind perhaps words_in
+returns-in-Ok-Some c =
+    let found : c.in-Ok-Some.field-0 ≡ Some c.in-Ok-Some.h = rw c.in-Ok-Some.is at c.in-Ok-Some.field-0-is in
+    c.result.ensures ∙ sym (ap (λ a. said (perhaps one (outcome a))) (c.in-Ok-Some.is ∙ ap (λ o. Ok o) found))
 
-pub returns-in-None : goal.returns-in-None
-unfolding said padded bind perhaps words_in one max_hop_outcome
-returns-in-None c = sym (ap (λ a. said (perhaps one (max_hop_outcome a))) c.in-None.is)
+pub returns-in-Ok-None : goal.returns-in-Ok-None
+unfolding said padded bind perhaps words_in
+returns-in-Ok-None c =
+    let found : c.in-Ok-None.field-0 ≡ None = rw c.in-Ok-None.is at c.in-Ok-None.field-0-is in
+    sym (ap (λ a. said (perhaps one (outcome a))) (c.in-Ok-None.is ∙ ap (λ o. Ok o) found))
 
-pub returns-in-Refused : goal.returns-in-Refused
-unfolding said padded bind perhaps words_in one max_hop_outcome
-returns-in-Refused c = c.refused.ensures ∙ perhaps_refused one _ ∙ sym (ap (λ a. said (perhaps one (max_hop_outcome a))) c.in-Refused.is)
+pub returns-in-Err : goal.returns-in-Err
+returns-in-Err c = c.refused.ensures ∙ perhaps_refused one _ ∙ sym (ap (λ a. said (perhaps one (outcome a))) c.in-Err.is)

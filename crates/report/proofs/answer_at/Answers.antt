@@ -1,14 +1,11 @@
-use Rattle.report.proofs.Answering.{in_words, in_none, in_short, in_refusal}
+use Rattle.std.proofs.lemmas.Result.{err_from_is_err_and}
+use Rattle.report.proofs.Answering.{in_words, in_refusal}
 use Rattle.report.proofs.answer_at.Goals as goal
 
-pub returns-in-Words : goal.returns-in-Words
-returns-in-Words c = in_words _ _ _ _ _ _ c.requires.1 _ _ c.discover_in.ensures _ c.in-Words.is
+pub returns-in_err-count : goal.returns-in_err-count
+returns-in_err-count c =
+    let p = err_from_is_err_and c.from_residual.result c.from_residual.ensures.1 in
+    rw (p.1, p.2) (in_refusal _ _ _ _ _ _ c.requires.1 _ _ c.discover_in-found.ensures _ c.in_err-count.was)
 
-pub returns-in-Absent : goal.returns-in-Absent
-returns-in-Absent c = in_none _ _ _ _ _ _ c.requires.1 _ _ c.discover_in.ensures c.in-Absent.is
-
-pub returns-in-Short : goal.returns-in-Short
-returns-in-Short c = in_short _ _ _ _ _ _ c.requires.1 _ _ c.discover_in.ensures _ c.in-Short.is
-
-pub returns-in-Refused : goal.returns-in-Refused
-returns-in-Refused c = in_refusal _ _ _ _ _ _ c.requires.1 _ _ c.discover_in.ensures _ c.in-Refused.is _ c.numbers_of.ensures
+pub returns : goal.returns
+returns c = rw c.unwrap_or.ensures (in_words _ _ _ _ _ _ c.requires.1 _ _ c.discover_in-found.ensures _ c.in_ok-count.was)

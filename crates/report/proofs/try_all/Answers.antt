@@ -1,3 +1,4 @@
+use Rattle.std.proofs.lemmas.Result.{err_from_is_err_and}
 use Prim.Native.Nat.{ℕ, ◌+◌}
 use native.Mathlib.Omega.{arith}
 use mathlib.Core.Path.{sym, ◌∙◌}
@@ -19,26 +20,28 @@ slice_bounds-answer_at-end c = sym c.loop-index.invariant.0
 pub answer_at-requires : goal.answer_at-requires
 answer_at-requires c = (c.loop-index-test.true, c.loop-index.invariant.0)
 
-pub returns-in-Refused : goal.returns-in-Refused
-returns-in-Refused c = tries_refused _ _ _ _ _ _ c.loop-index.invariant.1 c.loop-index-test.true (c.larger.ensures.0 c.if-larger.false) _ _ c.answer_at.ensures _ c.in-Refused.is
+pub returns-in_err-n : goal.returns-in_err-n
+returns-in_err-n c =
+    let p = err_from_is_err_and c.from_residual.result c.from_residual.ensures.1 in
+    rw (p.1, p.2) (tries_refused _ _ _ _ _ _ c.loop-index.invariant.1 c.loop-index-test.true (c.larger.ensures.0 c.if-larger.false) _ _ c.answer_at.ensures _ c.in_err-n.was)
 
 pub slice_bounds-words-end : goal.slice_bounds-words-end
-slice_bounds-words-end c = c.answer_at.ensures.within _ c.in-Words.is
+slice_bounds-words-end c = c.answer_at.ensures.within _ c.in_ok-n.was
 
 pub slice_bounds-tunnels-end : goal.slice_bounds-tunnels-end
-slice_bounds-tunnels-end c = sym (length-take-le _ _ (c.answer_at.ensures.within _ c.in-Words.is))
+slice_bounds-tunnels-end c = sym (length-take-le _ _ (c.answer_at.ensures.within _ c.in_ok-n.was))
 
 pub overflow_add-total : goal.overflow_add-total
 overflow_add-total c =
     let t : Trying c.args.entries.now c.args.adapters.now c.args.routes.now c.args.marks.now (c.loop-index.total + c.tunnels-total.result) (c.loop-index.index + 1) =
-    one_tried _ _ _ _ _ _ c.loop-index.invariant.1 c.loop-index-test.true _ _ c.answer_at.ensures (c.answer_at.auto.words ∙ c.loop-index.invariant.0) _ c.in-Words.is _ c.tunnels-total.ensures in
+    one_tried _ _ _ _ _ _ c.loop-index.invariant.1 c.loop-index-test.true _ _ c.answer_at.ensures (c.answer_at.auto.words ∙ c.loop-index.invariant.0) _ c.in_ok-n.was _ c.tunnels-total.ensures in
     let f : Fits c.args.entries.now c.args.adapters.now c.args.routes.now = c.larger.ensures.0 c.if-larger.false in
     omega (arith, t.few, t.past, f.adapters)
 
 pub loop-index-preserved : goal.loop-index-preserved
 loop-index-preserved c =
     let t : Trying c.args.entries.now c.args.adapters.now c.args.routes.now c.args.marks.now (c.loop-index.total + c.tunnels-total.result) (c.loop-index.index + 1) =
-    one_tried _ _ _ _ _ _ c.loop-index.invariant.1 c.loop-index-test.true _ _ c.answer_at.ensures (c.answer_at.auto.words ∙ c.loop-index.invariant.0) _ c.in-Words.is _ c.tunnels-total.ensures in
+    one_tried _ _ _ _ _ _ c.loop-index.invariant.1 c.loop-index-test.true _ _ c.answer_at.ensures (c.answer_at.auto.words ∙ c.loop-index.invariant.0) _ c.in_ok-n.was _ c.tunnels-total.ensures in
     (c.answer_at.auto.words ∙ c.loop-index.invariant.0, t)
 
 pub returns : goal.returns

@@ -1,4 +1,4 @@
-use Prim.Native.Nat.{◌+◌, ◌-◌}
+use Prim.Native.Nat.{◌+◌}
 use native.Mathlib.Omega.{arith}
 use Rattle.room.proofs.LineStarts.{block, last_block}
 use Rattle.room.proofs.all_starts.Goals as goal

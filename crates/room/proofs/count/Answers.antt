@@ -1,4 +1,3 @@
-use Prim.Native.Nat.{◌-◌}
 use native.Mathlib.Omega.{arith}
 use Rattle.room.proofs.Lines.{next_line, no_records}
 use Rattle.room.proofs.count.Goals as goal

@@ -7,4 +7,4 @@ returns-in_default c = simp c.in_default.is
 
 pub returns : goal.returns
 unfolding with_record
-returns c = simp c.in-Record.is
+returns c = simp c.in-Ok.is

@@ -1,7 +1,7 @@
 use native.Mathlib.Omega.{arith}
 use Rattle.tables.proofs.Laws.{device_past_routes, device_past_marks, device_at_lem}
 use Rattle.tables.specs.Found.{device_found}
-use mathlib.Core.Option.{some}
+use Rattle.std.specs.Prelude.{Some}
 use mathlib.Core.Path.{ap, ◌∙◌}
 use Rattle.routers.proofs.find_device.Goals as goal
 
@@ -16,4 +16,4 @@ returns-then-marks-place c = device_past_marks 0 c.args.routes.now c.args.marks.
 pub returns : goal.returns
 unfolding device_found
 returns c = let a = c.args in
-    ap some (c.device_of.ensures a.place) ∙ device_at_lem 0 a.place a.routes.now a.marks.now a.place (omega arith) c.if-routes-place.false c.if-marks-place.false
+    ap Some (c.device_of.ensures a.place) ∙ device_at_lem 0 a.place a.routes.now a.marks.now a.place (omega arith) c.if-routes-place.false c.if-marks-place.false

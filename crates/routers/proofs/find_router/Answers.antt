@@ -1,5 +1,4 @@
 use Rattle.tables.proofs.Laws.{router_here, router_on, router_past_routes, router_past_marks}
-use Rattle.tables.specs.Found.{router_found}
 use native.Mathlib.Omega.{arith}
 use mathlib.Core.Path.{refl, sym, ◌∙◌}
 use Prim.Native.Nat.{◌-◌}
@@ -10,11 +9,9 @@ pub loop-i-init : goal.loop-i-init
 loop-i-init c = (omega arith, refl)
 
 pub returns-then-marks-i : goal.returns-then-marks-i
-unfolding router_found
 returns-then-marks-i c = router_past_marks _ _ _ _ _ (omega arith) c.if-marks-i.true ∙ sym c.loop-i.invariant.1
 
 pub returns-then-mark-domain : goal.returns-then-mark-domain
-unfolding router_found
 returns-then-mark-domain c = router_here _ _ _ _ _ (omega arith) (omega arith) c.if-routes-i.true c.if-mark-eq1.true c.if-mark-domain.true ∙ sym c.loop-i.invariant.1
 
 pub loop-i-preserved : goal.loop-i-preserved
@@ -30,5 +27,4 @@ loop-i-preserved c = let a = c.args in (
 )
 
 pub returns : goal.returns
-unfolding router_found
 returns c = router_past_routes _ _ _ _ _ (omega arith) ∙ sym c.loop-i.invariant.1

@@ -1,3 +1,5 @@
+use Rattle.refusal.proofs.Laws.{no_field}
+use Rattle.std.specs.Prelude.{Err}
 use Rattle.util.specs.Text.{bytes_of}
 use borrow.Author.Tests.{not-true, not-false}
 use mathlib.Core.Path.{sym, ◌∙◌, ap}
@@ -18,14 +20,14 @@ returns-in_default c = λ s. laws.speed_nowhere _ _ _ _ c.by_name.ensures.answer
     ∙ laws.speed_register _ _ _ _ s _ c.type_number-number.ensures c.if-number-ne2.false (sym c.has_speed.ensures ∙ not-false _ (ap (λ b. not b) c.if-not-has_speed.false))
 
 pub overflow_add-register : goal.overflow_add-register
-overflow_add-register c = omega (arith, laws.found_within _ _ _ _ c.by_name.ensures.within c.in-At.is)
+overflow_add-register c = omega (arith, laws.found_within _ _ _ _ c.by_name.ensures.within c.in-Some.is)
 
 pub returns-in_default-field_value : goal.returns-in_default-field_value
 unfolding bytes_of
-returns-in_default-field_value c = λ s. laws.speed_lacks _ _ _ _ c.by_name.ensures.answer _ _ c.in-At.is _ c.word_at-value.ensures s _ c.field_value.ensures c.in_default-field_value.is
+returns-in_default-field_value c = λ s. laws.speed_lacks _ _ _ _ c.by_name.ensures.answer _ _ c.in-Some.is _ c.word_at-value.ensures s _ c.field_value.ensures (c.in_default-field_value.is ∙ ap Err (no_field _))
     ∙ laws.speed_register _ _ _ _ s _ c.type_number-number.ensures c.if-number-ne2.false (sym c.has_speed.ensures ∙ not-false _ (ap (λ b. not b) c.if-not-has_speed.false))
 
 pub returns : goal.returns
 unfolding bytes_of
-returns c = λ s. laws.speed_has _ _ _ _ c.by_name.ensures.answer _ _ c.in-At.is _ c.word_at-value.ensures s _ c.field_value.ensures _ c.in-Value.is _ c.speed_of.ensures
+returns c = λ s. laws.speed_has _ _ _ _ c.by_name.ensures.answer _ _ c.in-Some.is _ c.word_at-value.ensures s _ c.field_value.ensures _ c.in-Ok.is _ c.speed_of.ensures
     ∙ laws.speed_register _ _ _ _ s _ c.type_number-number.ensures c.if-number-ne2.false (sym c.has_speed.ensures ∙ not-false _ (ap (λ b. not b) c.if-not-has_speed.false))

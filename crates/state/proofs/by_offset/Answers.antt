@@ -1,4 +1,3 @@
-use Prim.Native.Nat.{◌-◌}
 use native.Mathlib.Omega.{arith}
 use Rattle.named.proofs.Laws.{seek_less}
 use Rattle.state.proofs.Laws as laws

@@ -10,4 +10,4 @@ returns-in_default c = λ s. laws.port_nameless _ _ _ _ _ _ s c.by_offset-i.ensu
 
 pub returns : goal.returns
 unfolding bytes_of
-returns c = λ s. laws.port_named _ _ _ _ _ _ s c.by_offset-i.ensures c.if-survey-i.false _ _ c.word_at-ids.ensures c.word_at.ensures _ c.find_group.ensures _ c.in-At.is _ c.word_at-2.ensures _ c.two_flags.ensures
+returns c = λ s. laws.port_named _ _ _ _ _ _ s c.by_offset-i.ensures c.if-survey-i.false _ _ c.word_at-ids.ensures c.word_at.ensures _ c.find_group.ensures _ c.in-Some.is _ c.word_at-2.ensures _ c.two_flags.ensures

@@ -1,6 +1,5 @@
 use Rattle.scan.specs.Scan.{is_line_feed}
 use Rattle.scan.proofs.Laws.{place_above}
-use Prim.Native.Nat.{◌-◌}
 use native.Mathlib.Omega.{arith}
 use Rattle.text.proofs.Skipping.{skips_start, skips_more, skipped_last, skipped_marker, skipped_end}
 use Rattle.text.proofs.next_marker.Goals as goal

@@ -1,4 +1,4 @@
-use Rattle.text.proofs.Dumps.{record_room, dump_put, no_high, no_short}
+use Rattle.text.proofs.Dumps.{record_room, dump_put, no_refusal}
 use mathlib.Core.Path.{sym}
 use native.Mathlib.Omega.{arith}
 use lib.Seq.{length-take-le}
@@ -8,16 +8,13 @@ pub slice_bounds-read-end-2 : goal.slice_bounds-read-end-2
 slice_bounds-read-end-2 c = sym (length-take-le _ _ c.least-room.ensures.1)
 
 pub overflow_mul-result : goal.overflow_mul-result
-overflow_mul-result c = omega (arith, (dump_put c.args.body.now c.args.scratch.now c.args.out.now c.args.k c.least-room.result c.requires.0 c.requires.1 (c.least-room.ensures.2 _ (record_room c.args.body.now) c.requires.2) c.least-room.ensures.1 c.read.ensures _ c.in-Records.is).0, c.well_formed)
+overflow_mul-result c = omega (arith, (dump_put c.args.body.now c.args.scratch.now c.args.out.now c.args.k c.least-room.result c.requires.0 c.requires.1 (c.least-room.ensures.2 _ (record_room c.args.body.now) c.requires.2) c.least-room.ensures.1 c.read.ensures _ c.in-Ok.is).0, c.well_formed)
 
 pub overflow_add-result : goal.overflow_add-result
-overflow_add-result c = omega (arith, (dump_put c.args.body.now c.args.scratch.now c.args.out.now c.args.k c.least-room.result c.requires.0 c.requires.1 (c.least-room.ensures.2 _ (record_room c.args.body.now) c.requires.2) c.least-room.ensures.1 c.read.ensures _ c.in-Records.is).0, c.well_formed)
+overflow_add-result c = omega (arith, (dump_put c.args.body.now c.args.scratch.now c.args.out.now c.args.k c.least-room.result c.requires.0 c.requires.1 (c.least-room.ensures.2 _ (record_room c.args.body.now) c.requires.2) c.least-room.ensures.1 c.read.ensures _ c.in-Ok.is).0, c.well_formed)
 
-pub returns-in-Records : goal.returns-in-Records
-returns-in-Records c = (dump_put c.args.body.now c.args.scratch.now c.args.out.now c.args.k c.least-room.result c.requires.0 c.requires.1 (c.least-room.ensures.2 _ (record_room c.args.body.now) c.requires.2) c.least-room.ensures.1 c.read.ensures _ c.in-Records.is).1
+pub returns : goal.returns
+returns c = (dump_put c.args.body.now c.args.scratch.now c.args.out.now c.args.k c.least-room.result c.requires.0 c.requires.1 (c.least-room.ensures.2 _ (record_room c.args.body.now) c.requires.2) c.least-room.ensures.1 c.read.ensures _ c.in-Ok.is).1
 
-pub returns-in-NotAscii : goal.returns-in-NotAscii
-returns-in-NotAscii c = absurd (no_high c.args.body.now c.args.scratch.now c.args.out.now c.args.k c.least-room.result c.requires.0 c.requires.1 (c.least-room.ensures.2 _ (record_room c.args.body.now) c.requires.2) c.least-room.ensures.1 c.read.ensures _ c.in-NotAscii.is)
-
-pub returns-in-Short : goal.returns-in-Short
-returns-in-Short c = absurd (no_short c.args.body.now c.args.scratch.now c.args.out.now c.args.k c.least-room.result c.requires.0 c.requires.1 (c.least-room.ensures.2 _ (record_room c.args.body.now) c.requires.2) c.least-room.ensures.1 c.read.ensures _ c.in-Short.is)
+pub returns-in_default : goal.returns-in_default
+returns-in_default c = absurd (no_refusal c.args.body.now c.args.scratch.now c.args.out.now c.args.k c.least-room.result c.requires.0 c.requires.1 (c.least-room.ensures.2 _ (record_room c.args.body.now) c.requires.2) c.least-room.ensures.1 c.read.ensures _ c.in_default.is)

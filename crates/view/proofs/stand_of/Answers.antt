@@ -1,22 +1,21 @@
 use mathlib.Core.Path.{◌∙◌, ap, sym}
-use mathlib.Core.List.{[], ◌∷◌}
-use Rattle.survey.specs.Rules.{checked_outcome}
-use Rattle.survey.specs.declared.Placed.TheVariants as placed
-use Rattle.view.specs.View.{bounds_by, stand_outcome}
-use Rattle.view.proofs.Laws.{refused_first, place_then}
+use Rattle.std.proofs.lemmas.Result.{err_from_is_err_and}
+use Rattle.survey.specs.Places.{group_at}
+use Rattle.view.specs.View.{bounds_by, group_place}
+use Rattle.refusal.specs.Refusal.{outcome}
+use Rattle.refusal.proofs.Laws.{ended, gone_on}
+use Rattle.view.proofs.Laws.{place_by}
+use Rattle.std.specs.Prelude.{ok_or}
+use Rattle.refusal.specs.declared.Refusal.TheVariants as refusal
 use Rattle.view.proofs.stand_of.Goals as goal
 
-pub returns-in-Refused : goal.returns-in-Refused
-unfolding checked_outcome stand_outcome
-returns-in-Refused c = let a = c.args in
-    refused_first a.survey.now a.place 4 (c.in-Refused.p ∷ []) (ap checked_outcome (sym c.in-Refused.is) ∙ c.check.ensures)
+pub returns-in_err-check : goal.returns-in_err-check
+unfolding group_place
+returns-in_err-check c = let a = c.args in
+    let p = err_from_is_err_and c.from_residual.result c.from_residual.ensures.1 in
+    rw (p.1, p.2) (ended c.check.result _ c.check.ensures (λ ok. bounds_by (group_at a.survey.now a.place)) _ c.in_err-check.was)
 
-pub returns-in-Group : goal.returns-in-Group
-unfolding checked_outcome stand_outcome bounds_by
-returns-in-Group c = let a = c.args in
-    place_then a.survey.now a.place (placed.Group c.in-Group.start c.in-Group.end) (ap checked_outcome (sym c.in_default.is) ∙ c.check.ensures) (sym c.in-Group.is ∙ c.device_group.ensures)
-
-pub returns-in-Nowhere : goal.returns-in-Nowhere
-unfolding checked_outcome stand_outcome bounds_by
-returns-in-Nowhere c = let a = c.args in
-    place_then a.survey.now a.place placed.Nowhere (ap checked_outcome (sym c.in_default.is) ∙ c.check.ensures) (sym c.in-Nowhere.is ∙ c.device_group.ensures)
+pub returns : goal.returns
+unfolding group_place
+returns c = let a = c.args in
+    ap outcome (c.ok_or.ensures.value ∙ ap (λ g. ok_or g refusal.Missing) c.device_group.ensures) ∙ place_by (group_at a.survey.now a.place) ∙ sym (gone_on c.check.result _ c.check.ensures (λ ok. bounds_by (group_at a.survey.now a.place)) _ c.in_ok-check.was)

@@ -1,0 +1,13 @@
+use mathlib.Core.Path.{sym, ap, ◌∙◌}
+use Rattle.refusal.specs.Outcome.{bind}
+use Rattle.refusal.specs.Refusal.{outcome}
+use Rattle.answers.specs.Said.{said, padded, always, bare}
+use Rattle.answers.proofs.Laws.{always_refused}
+use Rattle.lookups.proofs.checked.Goals as goal
+
+pub returns-in-Ok : goal.returns-in-Ok
+unfolding said padded always bare bind
+returns-in-Ok c = sym (ap (λ a. said (always bare (outcome a))) c.in-Ok.is)
+
+pub returns-in-Err : goal.returns-in-Err
+returns-in-Err c = c.refused.ensures ∙ always_refused bare c.in-Err.refusal ∙ sym (ap (λ a. said (always bare (outcome a))) c.in-Err.is)
