@@ -1,4 +1,4 @@
-// What the exported calls answer, in eight words: the calls on numbers, lines, dumps and texts.
+// What the exported calls answer, in eight words: a refusal, and the calls on numbers, lines, dumps and texts.
 #![tactic(auto)]
 
 ghost use Rattle.std.specs.Prelude.{◌≡◌, [], ◌∷◌};
@@ -32,7 +32,7 @@ fn sited(number: u64, site: Site) -> [u64; 8]
     ]
 }
 
-// Of a fault.
+// Of a fault: its number and values.
 fn faulted(fault: Fault) -> [u64; 8]
     ensures { result ≡ said (refusal_of fault) }
 {

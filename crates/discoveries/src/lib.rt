@@ -5,7 +5,7 @@ ghost use Rattle.discoveries.specs.Calls.{DiscoverDone};
 
 use refusal::Refusal;
 
-// The tunnels from an adapter of the device at a place, as result words.
+// The tunnels from an adapter of the device at a place, as result words: how many, or the words needed (2); or no list.
 pub fn discover(
     descriptions: &[u32],
     survey: &[u32],

@@ -699,7 +699,7 @@ fn of_kind(
     put_one(entries, adapters, routes, marks, plan, output)
 }
 
-// The tunnels from an adapter of the device at a place.
+// The tunnels from an adapter of the device at a place: how many words they have, or the words needed (2); or no list.
 pub fn discover_in(
     entries: &[u64],
     adapters: &[u64],

@@ -221,7 +221,7 @@ fn check_lines(text: &[u8]) -> Result<usize, Refusal>
     Ok(made)
 }
 
-// Whether a text is in document 01's grammar, and how many survey words it makes.
+// Whether a text is in document 01's grammar, and how many survey words it makes: its length where it is too long (2), the place of a byte above 127 (1), or the words made before a line that is wrong, 16,384 for too many (4).
 pub fn check(text: &[u8]) -> Result<usize, Refusal>
     ensures { outcome result ≡ check_answer text.now }
 {

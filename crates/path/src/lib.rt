@@ -95,7 +95,7 @@ pub fn put_walk(
     1 + 2 * hops
 }
 
-// Writes the path of the walk from an adapter and HopID of the device at a place, with a name; nothing where there is none, or too little room, or where the tables are larger than a survey's.
+// Writes the path of the walk from an adapter and HopID of the device at a place, with a name, and answers how many hops it has, or the words needed (2); nothing where there is none, or too little room, or where the tables are larger than a survey's.
 pub fn put_path(
     entries: &[u64],
     adapters: &[u64],

@@ -35,7 +35,7 @@ fn put_lines(words: &[u32], out: &mut [u8]) -> usize
     at
 }
 
-// The lines of result words. On words that are no result each head has its line as far as it can be read.
+// The lines of result words: how many bytes, or the bytes needed (2). On words that are no result each head has its line as far as it can be read.
 pub fn lines(words: &[u32], output: &mut [u8]) -> Result<usize, Refusal>
     ensures { PrintDone (lines_of words.now) output.old result output.new }
 {

@@ -34,14 +34,14 @@ fn numbered(text: &[u8], n: u64, output: &mut [u8]) -> Result<usize, Refusal>
     Ok(need)
 }
 
-// The first line: the number of tunnels.
+// The first line: the number of tunnels. How many bytes, or the bytes needed (2).
 pub fn total(tunnels: usize, output: &mut [u8]) -> Result<usize, Refusal>
     ensures { PrintDone (total_line tunnels) output.old result output.new }
 {
     numbered(b"tunnels ", tunnels as u64, output)
 }
 
-// The only line where something is refused: its number.
+// The only line where something is refused: its number. How many bytes, or the bytes needed (2).
 pub fn refused(number: u8, output: &mut [u8]) -> Result<usize, Refusal>
     ensures { PrintDone (refused_line number) output.old result output.new }
 {

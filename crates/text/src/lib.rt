@@ -270,7 +270,7 @@ fn put_words(text: &[u8], n: usize, long: bool, output: &mut [u32])
     put_sections(text, &mut scratch, output);
 }
 
-// A text to survey words.
+// A text to survey words: how many; the words needed, or the text's length where it is too long (2); the place of a byte above 127 (1); or the words made before a line that is wrong, 16,384 for too many (4).
 pub fn read(text: &[u8], output: &mut [u32]) -> Result<usize, Refusal>
     ensures { TextDone text.now output.old result output.new }
 {

@@ -46,10 +46,11 @@ unfoldable pub leaves : Option (List EntryRow) → Option Leaving
 leaves None = None
 leaves (Some hs) = leaving_of hs
 
--- document 01's number and values for what is answered, with the path's end, and with its number of hops alone
+-- a path of n hops that leaves by adapter a of the device at place q with HopID h, as it is answered
 abbrev pub walked_to : ℕ → ℕ → ℕ → ℕ → Result (Option Walked) Refusal
 walked_to n q a h = Ok (Some (record { hops = n; place = q; adapter = a; hop = h }))
 
+-- document 01's number and values for what is answered, with the path's end, and with its number of hops alone
 unfoldable pub tally_outcome : Result (Option Walked) Refusal → Outcome (Option Leaving)
 tally_outcome (Ok (Some w)) = value (Some (record { hops = w.hops; place = w.place; adapter = w.adapter; hop_id = w.hop }))
 tally_outcome (Ok None) = value None

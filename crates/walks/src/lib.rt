@@ -6,7 +6,7 @@ ghost use Rattle.walks.specs.Calls.{WalkDone};
 
 use refusal::Refusal;
 
-// The walk from an adapter and HopID of the device at a place: a path word with name 9 and its hops, or nothing.
+// The walk from an adapter and HopID of the device at a place: a path word with name 9 and its hops, and how many hops; or nothing. 2 comes with the words needed.
 pub fn discover_path(
     descriptions: &[u32],
     survey: &[u32],
