@@ -28,7 +28,7 @@ use Rattle.tables.specs.Found.{device_found, adapter_found, AdapterSought}
 use Rattle.tables.specs.declared.DeviceFacts.{DeviceFacts}
 use Rattle.tables.proofs.Laws.{type_round, device_past_routes}
 use Rattle.load.specs.Answers.{present, asked_device, asked_adapter}
-use Rattle.refusal.specs.Refusal.{refused_by}
+use Rattle.refusal.specs.Refusal.{refused_by, outcome}
 use Rattle.refusal.specs.declared.Refusal.{Refusal}
 use Rattle.refusal.specs.declared.Refusal.TheVariants as refusal
 use Rattle.fabric.specs.Tables.{rows_with}
@@ -40,7 +40,7 @@ use Rattle.tunnel.specs.Plans.{plan_if, planned_as, planned_outcome, words_by, p
 use Rattle.tunnel.specs.declared.Plan.{Plan as Planned}
 use Rattle.discovery.specs.Answers.{discover_at, in_room, output_by, is_list}
 use Rattle.discovery.specs.Tables.{Discovered}
-use Rattle.discovery.specs.Work.{Wrote, Walks, PlanPut, tally_of, tallied, Tallies, RingsPut, Follows, Free, OneAnswered, Answered, ring_list, dma_by, tunnel_by, rings_end}
+use Rattle.discovery.specs.Work.{Wrote, Walks, PlanPut, tally_of, Tallies, RingsPut, Follows, Free, OneAnswered, Answered, ring_list, dma_by, tunnel_by, rings_end}
 use Rattle.discovery.proofs.Walks.{down_and_up_walks, display_port_walks}
 use Rattle.refusal.proofs.Laws.{refused_bind}
 use Rattle.path.proofs.Writing.{refused_as_lem}
@@ -200,16 +200,16 @@ module _ (en ad ro ma : List ℕ) (p a : ℕ) (out : List ℕ) (k : ℕ) where
 
   module _ (c : Result ℕ Refusal) (f : Tallies en ad ro ma p a k c) where
     pub list_refused : (r : Refusal) → c ≡ Err r → Listed (Err r) out
-    unfolding is_list tallied bind
+    unfolding is_list bind
     list_refused r d = record {
-      follows = λ z t l. let y = counted_refused (rings (rows_of en ad ro ma) p a 1 k) r (sym (ap tallied d) ∙ f.counts z t l) in follows_refused (ring_list (rows_of en ad ro ma) p a k) out r y.0 y.1 (ap (λ o. bind o (λ ts. value (Some ts))) y.2) y.3;
+      follows = λ z t l. let y = counted_refused (rings (rows_of en ad ro ma) p a 1 k) r (sym (ap outcome d) ∙ f.counts z t l) in follows_refused (ring_list (rows_of en ad ro ma) p a k) out r y.0 y.1 (ap (λ o. bind o (λ ts. value (Some ts))) y.2) y.3;
       free = free_kept out (Err r) refl;
     }
 
     module _ (w : ℕ) (d : c ≡ Ok w) where
       all_rings : Sized en ro → Tabled en ad ro → p < 65536 → (ts : List Tunnel) × (rings (rows_of en ad ro ma) p a 1 k ≡ value ts) × (w ≡ length (tunnels_words ts)) × (ring_list (rows_of en ad ro ma) p a k ≡ value (Some ts))
-      unfolding tallied bind
-      all_rings z t l = let y = counted_words (rings (rows_of en ad ro ma) p a 1 k) w (sym (ap tallied d) ∙ f.counts z t l) in (y.0, y.1, y.2, ap (λ o. bind o (λ ts. value (Some ts))) y.1)
+      unfolding bind
+      all_rings z t l = let y = counted_words (rings (rows_of en ad ro ma) p a 1 k) w (sym (ap outcome d) ∙ f.counts z t l) in (y.0, y.1, y.2, ap (λ o. bind o (λ ts. value (Some ts))) y.1)
 
       pub list_short : length out < w → Listed (Err (refusal.Short w)) out
       unfolding is_list

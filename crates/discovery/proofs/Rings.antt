@@ -23,7 +23,7 @@ use Rattle.tunnel.specs.Tunnels.{Tunnel, one_dma, rings}
 use Rattle.tunnel.specs.Words.{tunnel_words, tunnels_words}
 use Rattle.tunnel.specs.Plans.{Plan, from_by, plan_of, plan_if, planned_outcome, words_by, paths_by, Plans}
 use Rattle.tunnel.specs.declared.Plan.{Plan as Planned}
-use Rattle.discovery.specs.Work.{Wrote, tally_of, tallied, mark_of, Marked, Idle, Drafted, Tallies, RingPut, RingsPut, PlanPut}
+use Rattle.discovery.specs.Work.{Wrote, tally_of, mark_of, Marked, Idle, Drafted, Tallies, RingPut, RingsPut, PlanPut}
 use Rattle.discovery.proofs.Walks.{one_dma_walks}
 use Rattle.discovery.proofs.Writing.{wrote_nothing, wrote_front}
 
@@ -161,7 +161,7 @@ module _ (en ad ro ma : List ℕ) (p a : ℕ) where
 
 -- rings that are refused have no words to draft
 pub drafted_refused : (en ad ro ma : List ℕ) (p a k : ℕ) (r : Refusal) → Tallies en ad ro ma p a k (Err r) → (draft : List ℕ) → Drafted en ad ro ma p a k draft
-unfolding tallied bind
+unfolding bind
 drafted_refused en ad ro ma p a k r t draft = record {
   words = λ z l q ts e n. absurd (let y = refused_as_lem (value (length (tunnels_words ts))) r (t.counts z l q ∙ ap (λ o. bind o (λ us. value (length (tunnels_words us)))) e) in let v = y.2 in let u : ◌≡◌ {A = ℕ} 0 1 = cc in omega arith);
 }
@@ -191,7 +191,7 @@ module _ (en ad ro ma : List ℕ) (p a end : ℕ) where
       go (value ts) = ap value (omega arith)
 
   pub counted_end : (need ring : ℕ) → Counted need ring → end ≤ ring → Tallies en ad ro ma p a (end - 1) (Ok need)
-  unfolding tallied counts rings bind tunnels_words
+  unfolding counts rings bind tunnels_words
   counted_end need ring c l = record {
     counts = λ z t q. sym (c.rest z t q ∙ ap (λ k. counts (rows_of en ad ro ma) p a ring k need) (let y : end - ring ≡ 0 = omega arith in y) ∙ ap value (let y : need + 0 ≡ need = omega arith in y));
   }
@@ -213,7 +213,6 @@ module _ (en ad ro ma : List ℕ) (p a end : ℕ) where
     }
 
     pub counted_refused : (r : Refusal) → Plans en ad ro ma p (λ x. one_dma x p a ring) (Err r) → Tallies en ad ro ma p a (end - 1) (Err r)
-    unfolding tallied
     counted_refused r f = record {
       counts = λ z t q.
           let y = plan_refused r (one_dma (rows_of en ad ro ma) p a ring) (f.answers z t q) in

@@ -54,10 +54,6 @@ unfoldable pub tally_of : Option Planned → ℕ
 tally_of (Some p) = p.words
 tally_of None = 0
 
-unfoldable pub tallied : Result ℕ Refusal → Outcome ℕ
-tallied (Ok n) = value n
-tallied (Err r) = refused_by r
-
 -- where rings end: no entry has a HopID above 65,535
 unfoldable pub rings_end : ℕ → ℕ
 rings_end most = cond (ltb 65535 most) 65536 (most + 1)
@@ -126,7 +122,7 @@ pub record NotePath (en ad ro ma : List ℕ) (ring note : ℕ) (r : Result Recei
 
 -- the words of the tunnels of k rings from 1 on
 pub record Tallies (en ad ro ma : List ℕ) (p a k : ℕ) (r : Result ℕ Refusal) : Type 0 where
-  pub counts : Sized en ro → Tabled en ad ro → p < 65536 → tallied r ≡ bind (rings (rows_of en ad ro ma) p a 1 k) (λ ts. value (length (tunnels_words ts)))
+  pub counts : Sized en ro → Tabled en ad ro → p < 65536 → outcome r ≡ bind (rings (rows_of en ad ro ma) p a 1 k) (λ ts. value (length (tunnels_words ts)))
 
 -- the words of the tunnels of k rings from 1 on stand at the front, where there is room for them
 pub record Drafted (en ad ro ma : List ℕ) (p a k : ℕ) (draft : List ℕ) : Type 0 where

@@ -22,7 +22,8 @@ use Rattle.walk.proofs.Laws.{walk_ends, Hopped, hopped, path_rule}
 use Rattle.path.specs.Words.{words_needed, with_path, output_by}
 use Rattle.path.proofs.Writing.{length_path_words, refused_as_lem}
 use Rattle.walks.specs.Calls.{single, path_answer, walk_answer, WalkDone}
-use Rattle.hops.specs.Records.{records_needed, with_records, records_by, is_path}
+use Rattle.hops.specs.Records.{records_needed, with_records, records_by}
+use Rattle.path.specs.Put.{is_path}
 use Rattle.hops.specs.Calls.{hops_answer, HopsDone}
 use Rattle.hops.specs.Records.{filled}
 use Rattle.hops.specs.Work.{Ready}

@@ -8,7 +8,8 @@ use Rattle.load.specs.Answers.{asked_adapter}
 use Rattle.walk.specs.Walking.{Stand}
 use Rattle.walk.specs.Rule.{in_room, WalkRule}
 use Rattle.walks.specs.Calls.{path_answer}
-use Rattle.hops.specs.Records.{records_needed, with_records, records_by, is_path}
+use Rattle.hops.specs.Records.{records_needed, with_records, records_by}
+use Rattle.path.specs.Put.{is_path}
 use Rattle.hops.specs.declared.Hop.{Hop}
 use Rattle.refusal.specs.Refusal.{outcome}
 use Rattle.refusal.specs.declared.Refusal.{Refusal}

@@ -1,10 +1,8 @@
 -- Document 01, the list of hop records: a single walk's hops as records. Assumes nothing.
-use Rattle.std.specs.Prelude.{ℕ, zero, suc, ◌+◌, ◌*◌, ◌-◌, ◌/◌, ◌%◌, Bool, true, false, cond, List, [], ◌∷◌, ◌++◌, map, ltb, length, drop, get_or, set, Option, None, Some, Err, Ok, Result}
+use Rattle.std.specs.Prelude.{ℕ, zero, suc, ◌+◌, ◌*◌, ◌-◌, ◌/◌, ◌%◌, cond, List, ◌++◌, map, ltb, length, drop, get_or, set, Option, None, Some}
 use Rattle.refusal.specs.Outcome.{Outcome, refused, value}
 use Rattle.tables.specs.Rows.{EntryRow}
 use Rattle.hops.specs.declared.Hop.{Hop}
-use Rattle.refusal.specs.declared.Refusal.{Refusal}
-use Rattle.refusal.specs.declared.Refusal.TheVariants as refusal
 
 -- place, in adapter, in HopID, out adapter, out HopID
 unfoldable pub record_of : EntryRow → Hop
@@ -22,11 +20,6 @@ unfoldable pub records_by : Outcome (Option (List EntryRow)) → List Hop → Li
 records_by (refused n vs) old = old
 records_by (value None) old = old
 records_by (value (Some hs)) old = cond (ltb (length old) (records_needed hs)) old (with_records hs old)
-
-unfoldable pub is_path : Result (Option ℕ) Refusal → Bool
-is_path (Ok (Some n)) = true
-is_path (Ok None) = false
-is_path (Err r) = false
 
 -- the record of hop i of a path's result words: a path word, then two words a hop; a place stands below the kind, 10
 unfoldable pub hop_at : List ℕ → ℕ → Hop
