@@ -12,7 +12,7 @@ use lib.ListN.{length, get_or-eq_default}
 use borrow.Author.Tests.{lt-ltb, le-ltb, le-leb, lt-leb, eq-eqb, ne_eqb}
 use Rattle.refusal.proofs.Laws.{fault_bind}
 use Rattle.refusal.specs.Outcome.{value, bind}
-use Rattle.refusal.specs.Refusal.{refusal_of}
+use Rattle.refusal.specs.Refusal.{refusal_of, fault_outcome, field_at}
 use Rattle.refusal.specs.declared.Site.{Site}
 use Rattle.refusal.specs.declared.Fault.{Fault}
 use Rattle.refusal.specs.declared.Fault.TheVariants.{FewRegisters}
@@ -33,10 +33,10 @@ use Rattle.survey.specs.Devices.{Adapter, register_in}
 use Rattle.listing.specs.After.{after, listed, register_at, adapter_at, NextRegister}
 use Rattle.listing.proofs.Laws.{after_end, register_end}
 use Rattle.named.specs.Named.{Named, adapter_space, by_name, sited, wanted_field, named_at, named_in}
-use Rattle.refusal.specs.Refusal.{field_read}
+use Rattle.refusal.specs.Refusal.{field_read, fault_outcome, field_at}
 use Rattle.named.specs.declared.NamedAt.{NamedAt}
-use Rattle.state.specs.State.{state_of, link_speed, state_outcome, speed_outcome, of_kind}
-use Rattle.adapter.specs.Adapter.{third_value, kind_of, registers_of, indices_from, last_of, between, find_cap, is_lane, cap_usb4, is_lane0, lane0_of, lane1_of, narrow, max_hop_in, max_hop, parse_state, AdapterRow, adapter_site, few_registers, row_of, decode_of, max_hop_outcome, facts_row, decoded_outcome}
+use Rattle.state.specs.State.{state_of, link_speed, of_kind}
+use Rattle.adapter.specs.Adapter.{third_value, kind_of, registers_of, indices_from, last_of, between, find_cap, is_lane, cap_usb4, is_lane0, lane0_of, lane1_of, narrow, max_hop_in, max_hop, parse_state, AdapterRow, adapter_site, few_registers, row_of, decode_of, facts_row, decoded_outcome}
 use Rattle.adapter.specs.declared.Part.{Part}
 use Rattle.adapter.specs.Work.{ThirdOf, KindIs, row_by}
 use Rattle.adapter.specs.declared.Facts.{Facts}
@@ -315,8 +315,8 @@ module _ (usb4 : Bool) (k : AdapterType) (number : ℕ) (rs : List Register) whe
 
 -- the largest HopID
 module _ (s : Site) (t v : List ℕ) (o : Option Named) (f : Option NamedAt) (e : named_at t v f ≡ o) where
-  pub most_none : f ≡ None → max_hop_outcome s (Ok None) ≡ max_hop_in s o
-  unfolding max_hop_outcome max_hop_in named_at
+  pub most_none : f ≡ None → field_at s (Ok None) ≡ max_hop_in s o
+  unfolding max_hop_in named_at
   most_none k = ap (λ z. max_hop_in s z) (sym (ap (λ z. named_at t v z) k) ∙ e)
 
   module _ (i g : ℕ) (k : f ≡ named_in i g) (w : ℕ) (q : w ≡ word v (i + 3))
@@ -327,27 +327,27 @@ module _ (s : Site) (t v : List ℕ) (o : Option Named) (f : Option NamedAt) (e 
         ap (λ z. max_hop_in s z) (sym e ∙ ap (λ z. named_at t v z) k)
         ∙ ap (λ z. bind (sited s z) (λ m. value (narrow m))) (sym (h ∙ ap (λ z. value_in z (find_field (bytes_of "Max Input HopID") (described t g).fields)) q))
 
-    pub most_lacks : r ≡ (Err field.NoField) → max_hop_outcome s (Err field.NoField) ≡ max_hop_in s o
-    unfolding max_hop_outcome sited bind refusal_of
+    pub most_lacks : r ≡ (Err field.NoField) → field_at s (Err field.NoField) ≡ max_hop_in s o
+    unfolding sited bind refusal_of
     most_lacks m = sym (most_by ∙ ap (λ z. bind (sited s (field_read z)) (λ m. value (narrow m))) m)
 
-    pub most_wide : (m : ℕ) → r ≡ Ok m → 65535 < m → max_hop_outcome s (Ok None) ≡ max_hop_in s o
-    unfolding max_hop_outcome sited bind narrow
+    pub most_wide : (m : ℕ) → r ≡ Ok m → 65535 < m → field_at s (Ok None) ≡ max_hop_in s o
+    unfolding sited bind narrow
     most_wide m y l = sym (most_by ∙ ap (λ z. bind (sited s (field_read z)) (λ m. value (narrow m))) y ∙ ap (λ b. value (cond b (Some m) None)) (lt-leb m 65535 l))
 
-    pub most_is : (m : ℕ) → r ≡ Ok m → m ≤ 65535 → max_hop_outcome s (Ok (Some m)) ≡ max_hop_in s o
-    unfolding max_hop_outcome sited bind narrow
+    pub most_is : (m : ℕ) → r ≡ Ok m → m ≤ 65535 → field_at s (Ok (Some m)) ≡ max_hop_in s o
+    unfolding sited bind narrow
     most_is m y l = sym (most_by ∙ ap (λ z. bind (sited s (field_read z)) (λ m. value (narrow m))) y ∙ ap (λ b. value (cond b (Some m) None)) (le-leb m 65535 l))
 
 pub most_of : (ds : List Description) (s : Site) (k : AdapterType) (n : ℕ) (rs : List Register) (h : Result (Option ℕ) FieldError) → n ≡ type_number k
-    → max_hop_outcome s h ≡ max_hop_in s (by_name ds adapter_space n (bytes_of "ADP_CS_5") rs) → max_hop_outcome s h ≡ max_hop ds s k rs
+    → field_at s h ≡ max_hop_in s (by_name ds adapter_space n (bytes_of "ADP_CS_5") rs) → field_at s h ≡ max_hop ds s k rs
 unfolding max_hop of_kind
 most_of ds s k n rs h e q = q ∙ ap (λ z. max_hop_in s (by_name ds adapter_space z (bytes_of "ADP_CS_5") rs)) e
 
 -- what is known of an adapter, field by field
 pub facts_row_lem : (ds : List Description) (p : ℕ) (usb4 : Bool) (n : ℕ) (k : AdapterType) (rs : List Register) (st : State) (l0 l1 : Bool) (sp : Result Speed FieldError) (h : Result (Option ℕ) FieldError)
-    → l0 ≡ is_lane0 usb4 k n rs → l1 ≡ (is_lane k && not l0) → speed_outcome (adapter_site p n) sp ≡ link_speed ds (adapter_site p n) k st rs
-    → max_hop_outcome (adapter_site p n) h ≡ max_hop ds (adapter_site p n) k rs
+    → l0 ≡ is_lane0 usb4 k n rs → l1 ≡ (is_lane k && not l0) → field_at (adapter_site p n) sp ≡ link_speed ds (adapter_site p n) k st rs
+    → field_at (adapter_site p n) h ≡ max_hop ds (adapter_site p n) k rs
     → facts_row p (record { number = n; kind = k; state = st; lane0 = l0; lane1 = l1; speed = sp; max_hop = h }) ≡ row_by ds p usb4 n k rs st
 unfolding facts_row row_by
 facts_row_lem ds p usb4 n k rs st l0 l1 sp h e0 e1 es eh = rw (es, eh, e1, e0) refl
@@ -359,29 +359,29 @@ module _ (ds : List Description) (p : ℕ) (usb4 : Bool) (a : Adapter) (n : ℕ)
   decode_few m = let k : few_registers a ≡ true = subst (λ z. KindIs a z) m eq in rw (k, en) refl
 
   module _ (k : AdapterType) (ek : q ≡ Some k) (rs : List Register) (er : rs ≡ registers_of a)
-      (f : Result State Fault) (ef : state_outcome f ≡ state_of ds (record { place = p; adapter = n }) k rs) where
+      (f : Result State Fault) (ef : fault_outcome f ≡ state_of ds (record { place = p; adapter = n }) k rs) where
     its_kind : (few_registers a ≡ false) × (k ≡ kind_of a)
     unfolding KindIs
     its_kind = subst (λ z. KindIs a z) ek eq
 
-    state_is : parse_state ds (adapter_site p a.number) a ≡ state_outcome f
+    state_is : parse_state ds (adapter_site p a.number) a ≡ fault_outcome f
     unfolding parse_state adapter_site
     state_is = rw (ef, en, its_kind.1, er) refl
 
-    decode_by : (z : Result State Fault) → f ≡ z → decode_of ds p usb4 a ≡ bind (state_outcome z) (λ st. value (row_of ds p usb4 a st))
+    decode_by : (z : Result State Fault) → f ≡ z → decode_of ds p usb4 a ≡ bind (fault_outcome z) (λ st. value (row_of ds p usb4 a st))
     unfolding decode_of
     decode_by z m =
         ap (λ b. cond b (refusal_of (FewRegisters (adapter_site p a.number))) (bind (parse_state ds (adapter_site p a.number) a) (λ st. value (row_of ds p usb4 a st)))) its_kind.0
-        ∙ ap (λ o. bind o (λ st. value (row_of ds p usb4 a st))) (state_is ∙ ap state_outcome m)
+        ∙ ap (λ o. bind o (λ st. value (row_of ds p usb4 a st))) (state_is ∙ ap fault_outcome m)
 
     row_is : (st : State) → row_by ds p usb4 n k rs st ≡ row_of ds p usb4 a st
     unfolding row_by row_of lane0_of lane1_of
     row_is st = rw (en, its_kind.1, er) refl
 
     pub decode_refused : (x : Fault) → f ≡ Err x → decoded_outcome p (Err x) ≡ decode_of ds p usb4 a
-    unfolding decoded_outcome state_outcome
+    unfolding decoded_outcome
     decode_refused x m = sym (decode_by (Err x) m ∙ fault_bind {A = State} {B = AdapterRow} x _)
 
     pub decode_adapter : (st : State) → f ≡ Ok st → (r : Facts) → facts_row p r ≡ row_by ds p usb4 n k rs st → decoded_outcome p (Ok r) ≡ decode_of ds p usb4 a
-    unfolding decoded_outcome state_outcome bind
+    unfolding decoded_outcome bind
     decode_adapter st m r h = ap (λ z. value z) (h ∙ row_is st) ∙ sym (decode_by (Ok st) m)

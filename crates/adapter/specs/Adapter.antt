@@ -1,7 +1,7 @@
 -- Document 01, module 5: an adapter's kind, lanes, capabilities and hop range, and what it is loaded to. Assumes nothing.
 use Rattle.std.specs.Prelude.{is_some, ℕ, suc, Bool, true, false, cond, not, ◌&&◌, ◌||◌, List, [], ◌∷◌, ltb, leb, eqb, length, Option, None, Some, Err, Ok, Result}
 use Rattle.refusal.specs.Outcome.{Outcome, value, bind}
-use Rattle.refusal.specs.Refusal.{refusal_of}
+use Rattle.refusal.specs.Refusal.{refusal_of, field_at}
 use Rattle.refusal.specs.declared.Site.{Site}
 use Rattle.refusal.specs.declared.Fault.TheVariants.{FewRegisters, NoField}
 use Rattle.util.specs.Bits.{bits_of}
@@ -16,7 +16,7 @@ use Rattle.register.specs.declared.Register.{Register}
 use Rattle.layout.specs.Description.{Description}
 use Rattle.survey.specs.Devices.{Adapter}
 use Rattle.named.specs.Named.{Named, wanted_field}
-use Rattle.state.specs.State.{of_kind, state_of, link_speed, speed_outcome}
+use Rattle.state.specs.State.{of_kind, state_of, link_speed}
 use Rattle.adapter.specs.declared.Part.{Part}
 use Rattle.adapter.specs.declared.Facts.{Facts}
 use Rattle.refusal.specs.declared.Fault.{Fault}
@@ -143,11 +143,6 @@ decode_of ds p usb4 a =
     cond (few_registers a) (refusal_of (FewRegisters (adapter_site p a.number)))
     (bind (parse_state ds (adapter_site p a.number) a) (λ st. value (row_of ds p usb4 a st)))
 
-unfoldable pub max_hop_outcome : Site → Result (Option ℕ) FieldError → Outcome (Option ℕ)
-max_hop_outcome s (Ok (Some h)) = value (Some h)
-max_hop_outcome s (Ok None) = value None
-max_hop_outcome s (Err e) = refusal_of (NoField s)
-
 unfoldable pub facts_row : ℕ → Facts → AdapterRow
 facts_row p f = record {
   device = p;
@@ -156,8 +151,8 @@ facts_row p f = record {
   state = f.state;
   lane0 = f.lane0;
   lane1 = f.lane1;
-  speed = speed_outcome (adapter_site p f.number) f.speed;
-  max_hop = max_hop_outcome (adapter_site p f.number) f.max_hop;
+  speed = field_at (adapter_site p f.number) f.speed;
+  max_hop = field_at (adapter_site p f.number) f.max_hop;
 }
 
 unfoldable pub decoded_outcome : ℕ → Result Facts Fault → Outcome AdapterRow

@@ -7,8 +7,9 @@ ghost use Rattle.util.specs.Text.{bytes_of};
 ghost use Rattle.layout.specs.Description.{descriptions_of};
 ghost use Rattle.listing.specs.After.{after, adapter_at};
 ghost use Rattle.named.specs.Named.{adapter_space, named, by_name};
-ghost use Rattle.adapter.specs.Adapter.{registers_of, find_cap, is_lane, is_lane0, max_hop_in, decode_of, max_hop_outcome, decoded_outcome, facts_row};
+ghost use Rattle.adapter.specs.Adapter.{registers_of, find_cap, is_lane, is_lane0, max_hop_in, decode_of, decoded_outcome, facts_row};
 ghost use Rattle.adapter.specs.Work.{ThirdOf, KindIs, row_by};
+ghost use Rattle.refusal.specs.Refusal.{field_at};
 
 use named::NamedAt;
 use refusal::{Fault, FieldError, Site};
@@ -150,7 +151,7 @@ fn max_hop(
     from: usize,
     kind: u32,
 ) -> Result<Option<u32>, FieldError>
-    ensures { (s : Site) → max_hop_outcome s result ≡ max_hop_in s (by_name (descriptions_of descriptions.now) adapter_space kind (bytes_of "ADP_CS_5") (after survey.now from).registers) }
+    ensures { (s : Site) → field_at s result ≡ max_hop_in s (by_name (descriptions_of descriptions.now) adapter_space kind (bytes_of "ADP_CS_5") (after survey.now from).registers) }
 {
     let Some(NamedAt { register, group }) = named::by_name(
         descriptions,

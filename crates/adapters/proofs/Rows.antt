@@ -11,8 +11,8 @@ use lib.Seq.{length-take-le}
 use Rattle.refusal.specs.Outcome.{Outcome, refused, value, bind}
 use Rattle.refusal.specs.declared.Fault.TheVariants as fault
 use Rattle.usb4.specs.declared.Speed.{Speed}
-use Rattle.state.specs.State.{is_enabled, speed_outcome as speed_by}
-use Rattle.adapter.specs.Adapter.{AdapterRow, adapter_site, facts_row, min_hop, max_hop_outcome as max_hop_by}
+use Rattle.state.specs.State.{is_enabled}
+use Rattle.adapter.specs.Adapter.{AdapterRow, adapter_site, facts_row, min_hop}
 use Rattle.adapter.specs.declared.Facts.{Facts}
 use Rattle.tables.specs.Rows.{Rows, EntryRow, DeviceRow, entry_in, adapter_in}
 use Rattle.tables.specs.Packed.{entries_in, adapters_in, devices_in}

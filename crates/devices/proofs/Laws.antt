@@ -15,14 +15,14 @@ use Rattle.adapter.specs.Adapter.{AdapterRow, facts_row}
 use Rattle.adapter.specs.declared.Facts.{Facts}
 use Rattle.tables.specs.Rows.{Rows, DeviceRow, adapter_in, device_in}
 use Rattle.tables.specs.Packed.{devices_in}
-use Rattle.tables.specs.Found.{AdapterSought, adapter_found, device_found, upstream_outcome, device_row}
+use Rattle.tables.specs.Found.{AdapterSought, adapter_found, device_found, device_row}
 use Rattle.tables.specs.declared.DeviceFacts.{DeviceFacts}
 use Rattle.tables.proofs.Laws.{device_past_routes}
 use Rattle.load.proofs.Result.{tables_in, load_tables, usable, sizes}
 use Rattle.refusal.proofs.Laws.{refused_bind}
 use Rattle.load.specs.Loading.{loaded}
 use Rattle.load.specs.Answers.{loaded_rows, Usable, UsableBy, present, asked_device}
-use Rattle.refusal.specs.Refusal.{refused_by}
+use Rattle.refusal.specs.Refusal.{refused_by, field_at}
 use Rattle.refusal.specs.declared.Site.{Site}
 use Rattle.refusal.specs.declared.Refusal.{Refusal}
 use Rattle.refusal.specs.declared.Refusal.TheVariants as refusal
@@ -87,8 +87,7 @@ module _ {A : Type 0} (o : Option A) (q : Result A Refusal) (is : q ≡ ok_or o 
       go (Some b) f = cc
 
 -- a router's upstream adapter, or that there is none, where that is known
-pub upstream_known : (s : Site) (o : Option ℕ) → upstream_outcome s (Ok o) ≡ value o
-unfolding upstream_outcome
+pub upstream_known : (s : Site) (o : Option ℕ) → field_at s (Ok o) ≡ value o
 upstream_known s None = refl
 upstream_known s (Some a) = refl
 

@@ -12,7 +12,7 @@ use lib.ListN.{length, take, drop, drop_of_length-le}
 use lib.Seq.{length-take-le, length_front, drop_at}
 use borrow.Author.Tests.{lt-ltb, le-ltb, eq-eqb, ne_eqb}
 use Rattle.refusal.specs.Outcome.{Outcome, refused, value, bind}
-use Rattle.refusal.specs.Refusal.{at as site-at, refusal_of}
+use Rattle.refusal.specs.Refusal.{at as site-at, refusal_of, field_at}
 use Rattle.refusal.specs.declared.Fault.TheVariants.{NoField}
 use Rattle.usb4.specs.Numbers.{type_number, state_number}
 use Rattle.usb4.specs.declared.AdapterType.{AdapterType}
@@ -20,7 +20,7 @@ use Rattle.usb4.specs.declared.AdapterType.TheVariants as type
 use Rattle.usb4.specs.declared.State.{State}
 use Rattle.usb4.specs.declared.TunnelType.TheVariants as tunnel_type
 use Rattle.state.specs.State.{is_protocol, is_enabled}
-use Rattle.adapter.specs.Adapter.{AdapterRow, min_hop, adapter_site, facts_row, max_hop_outcome}
+use Rattle.adapter.specs.Adapter.{AdapterRow, min_hop, adapter_site, facts_row}
 use Rattle.adapter.specs.declared.Facts.{Facts}
 use Rattle.tables.specs.Rows.{Rows, adapter_in, device_in}
 use Rattle.tables.specs.Packed.{type_by, adapters_in, devices_in}
@@ -28,7 +28,7 @@ use Rattle.tables.specs.Found.{device_found, adapter_found, AdapterSought}
 use Rattle.tables.specs.declared.DeviceFacts.{DeviceFacts}
 use Rattle.tables.proofs.Laws.{type_round, device_past_routes}
 use Rattle.load.specs.Answers.{present, asked_device, asked_adapter}
-use Rattle.refusal.specs.Refusal.{refused_by, outcome}
+use Rattle.refusal.specs.Refusal.{refused_by, outcome, field_at}
 use Rattle.refusal.specs.declared.Refusal.{Refusal}
 use Rattle.refusal.specs.declared.Refusal.TheVariants as refusal
 use Rattle.fabric.specs.Tables.{rows_with}
@@ -169,28 +169,28 @@ counted_refused (value ts) r e = absurd (let w = refused_as_lem (value (length (
 
 module _ (en ad ro ma : List ℕ) (p a : ℕ) (out : List ℕ) where
   abbrev Rung : Result (Option ℕ) FieldError → Result (Option ℕ) Refusal → List ℕ → Type 0
-  Rung m r out' = Answered en ad ro ma p (λ x. dma_by x p a (max_hop_outcome (adapter_site p a) m)) out r out'
+  Rung m r out' = Answered en ad ro ma p (λ x. dma_by x p a (field_at (adapter_site p a) m)) out r out'
 
   pub dma_absent : (m : Result (Option ℕ) FieldError) → m ≡ (Ok None) → Rung m (Ok None) out
-  unfolding is_list max_hop_outcome dma_by bind or_none
+  unfolding is_list dma_by bind or_none
   dma_absent m e = record {
-    follows = λ z t l. follows_none (dma_by (rows_of en ad ro ma) p a (max_hop_outcome (adapter_site p a) m)) out (ap (λ q. dma_by (rows_of en ad ro ma) p a (max_hop_outcome (adapter_site p a) q)) e);
+    follows = λ z t l. follows_none (dma_by (rows_of en ad ro ma) p a (field_at (adapter_site p a) m)) out (ap (λ q. dma_by (rows_of en ad ro ma) p a (field_at (adapter_site p a) q)) e);
     free = free_kept out (Ok None) refl;
   }
 
   pub dma_unread : (m : Result (Option ℕ) FieldError) → m ≡ (Err field.NoField) → Rung m (Err (refusal.Fault (NoField (adapter_site p a)))) out
-  unfolding is_list max_hop_outcome dma_by bind refusal_of
+  unfolding is_list dma_by bind refusal_of
   dma_unread m e = record {
-    follows = λ z t l. follows_refused (dma_by (rows_of en ad ro ma) p a (max_hop_outcome (adapter_site p a) m)) out (refusal.Fault (NoField (adapter_site p a))) 6 (site-at (adapter_site p a)) (ap (λ q. dma_by (rows_of en ad ro ma) p a (max_hop_outcome (adapter_site p a) q)) e) (λ A. refl);
+    follows = λ z t l. follows_refused (dma_by (rows_of en ad ro ma) p a (field_at (adapter_site p a) m)) out (refusal.Fault (NoField (adapter_site p a))) 6 (site-at (adapter_site p a)) (ap (λ q. dma_by (rows_of en ad ro ma) p a (field_at (adapter_site p a) q)) e) (λ A. refl);
     free = free_kept out _ refl;
   }
 
   -- those past 65,535 have no tunnel
   pub dma_rings : (m : Result (Option ℕ) FieldError) (hi end : ℕ) → m ≡ Ok (Some hi) → end ≡ rings_end hi → (r : Result (Option ℕ) Refusal) (out' : List ℕ) → Answered en ad ro ma p (λ x. ring_list x p a (end - 1)) out r out' → Rung m r out'
-  unfolding max_hop_outcome dma_by bind or_none
+  unfolding dma_by bind or_none
   dma_rings m hi end e is r out' w = answered_as en ad ro ma p _ _ out r out'
       (λ z.
-      ap (λ y. dma_by (rows_of en ad ro ma) p a (max_hop_outcome (adapter_site p a) y)) e
+      ap (λ y. dma_by (rows_of en ad ro ma) p a (field_at (adapter_site p a) y)) e
       ∙ ap (λ y. bind y (λ ts. value (Some ts))) (rings_capped en ad ro ma p a hi z ∙ ap (λ y. rings (rows_of en ad ro ma) p a 1 (y - 1)) (sym is)))
       w
 
@@ -302,18 +302,18 @@ module _ (en ad ro ma : List ℕ) (p : ℕ) (f : Facts) (out : List ℕ) (r : Re
   unfolding discover facts_row by_kind
   discover_as x k e = ap (by_kind x) e
 
-  host_rings : (x : Rows) → f.kind ≡ type.HostInterface → discover x p (facts_row p f) ≡ dma_by x p f.number (max_hop_outcome (adapter_site p f.number) f.max_hop)
+  host_rings : (x : Rows) → f.kind ≡ type.HostInterface → discover x p (facts_row p f) ≡ dma_by x p f.number (field_at (adapter_site p f.number) f.max_hop)
   unfolding by_kind is_enabled of_kind dma dma_by facts_row min_hop or_none bind
   host_rings x e =
-      discover_as x type.HostInterface e ∙ ap (λ k. or_none (min_hop k) (λ lo. bind (max_hop_outcome (adapter_site p f.number) f.max_hop) (λ m. or_none m (λ hi. bind (rings x p f.number lo (hi + 1 - lo)) (λ ts. value (Some ts)))))) e
-      ∙ go (max_hop_outcome (adapter_site p f.number) f.max_hop)
+      discover_as x type.HostInterface e ∙ ap (λ k. or_none (min_hop k) (λ lo. bind (field_at (adapter_site p f.number) f.max_hop) (λ m. or_none m (λ hi. bind (rings x p f.number lo (hi + 1 - lo)) (λ ts. value (Some ts)))))) e
+      ∙ go (field_at (adapter_site p f.number) f.max_hop)
     where
       go : (o : Outcome (Option ℕ)) → bind o (λ m. or_none m (λ hi. bind (rings x p f.number 1 (hi + 1 - 1)) (λ ts. value (Some ts)))) ≡ bind o (λ m. or_none m (λ hi. bind (rings x p f.number 1 hi) (λ ts. value (Some ts))))
       go (refused k vs) = refl
       go (value None) = refl
       go (value (Some hi)) = ap (λ n. bind (rings x p f.number 1 n) (λ ts. value (Some ts))) (let z : hi + 1 - 1 ≡ hi = omega arith in z)
 
-  pub told_host : (n : ℕ) → n ≡ type_number f.kind → n ≡ 3 → Answered en ad ro ma p (λ x. dma_by x p f.number (max_hop_outcome (adapter_site p f.number) f.max_hop)) out r out' → Told
+  pub told_host : (n : ℕ) → n ≡ type_number f.kind → n ≡ 3 → Answered en ad ro ma p (λ x. dma_by x p f.number (field_at (adapter_site p f.number) f.max_hop)) out r out' → Told
   unfolding type_by
   told_host n e k a = answered_as en ad ro ma p _ _ out r out' (λ z. host_rings (rows_of en ad ro ma) (type_is f.kind n e ∙ ap type_by k)) a
 

@@ -3,12 +3,13 @@
 
 ghost use Rattle.std.specs.Prelude.{ℕ, ◌+◌, ◌*◌, ◌-◌, ◌≤◌, ◌<◌, ◌≡◌, true, cond, List, length, get_or, Ok};
 ghost use Rattle.usb4.specs.Numbers.{tunnel_number};
-ghost use Rattle.adapter.specs.Adapter.{facts_row, adapter_site, max_hop_outcome};
+ghost use Rattle.adapter.specs.Adapter.{facts_row, adapter_site};
 ghost use Rattle.receive.specs.Tables.{Receives};
 ghost use Rattle.tunnel.specs.Tunnels.{discover, one_dma};
 ghost use Rattle.tunnel.specs.Plans.{Plans, from_by, paths_by};
 ghost use Rattle.discovery.specs.Tables.{Discovered};
 ghost use Rattle.discovery.specs.Work.{PathPut, PlanPut, Marked, Unmarked, Spared, Resting, Idle, Quiet, mark_of, Known, Told, NoteFound, NotePath, among, out_hops, Drafted, Tallies, RingPut, RingsPut, OneAnswered, Answered, ring_list, dma_by, tunnel_by, tally_of, rings_end};
+ghost use Rattle.refusal.specs.Refusal.{field_at};
 
 use adapter::Facts;
 use receive::{ReceivePath, Received};
@@ -630,7 +631,7 @@ fn put_dma(
     most: Result<Option<u32>, FieldError>,
     output: &mut [u32],
 ) -> Result<Option<usize>, Refusal>
-    ensures { Answered entries.now adapters.now routes.now marks.now place (λ x. dma_by x place adapter (max_hop_outcome (adapter_site place adapter) most)) output.old result output.new }
+    ensures { Answered entries.now adapters.now routes.now marks.now place (λ x. dma_by x place adapter (field_at (adapter_site place adapter) most)) output.old result output.new }
 {
     match most {
         Ok(None) => Ok(None),

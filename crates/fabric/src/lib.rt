@@ -9,10 +9,11 @@ ghost use Rattle.route.specs.Route.{upstream_route, downstream_route};
 ghost use Rattle.adapter.specs.Adapter.{adapter_site};
 ghost use Rattle.tables.specs.Rows.{adapter_in};
 ghost use Rattle.tables.specs.Packed.{Sorted, adapter_unit, adapters_in};
-ghost use Rattle.tables.specs.Found.{device_row, upstream_outcome};
+ghost use Rattle.tables.specs.Found.{device_row};
 ghost use Rattle.fabric.specs.Links.{is_upstream, route_or};
 ghost use Rattle.fabric.specs.Fabric.{stand_by, arrive_up, arrive_down, to_route, leads};
 ghost use Rattle.fabric.specs.Tables.{way_of, LeadsTo};
+ghost use Rattle.refusal.specs.Refusal.{field_at};
 
 use refusal::{Fault, FieldError, Refusal, Site};
 use tables::DeviceFacts;
@@ -27,7 +28,7 @@ pub enum Next {
 
 // Whether an adapter is its router's upstream adapter.
 fn is_upstream(upstream: Result<Option<u8>, FieldError>, number: u8) -> bool
-    ensures { (s : Site) → result ≡ is_upstream (upstream_outcome s upstream) number }
+    ensures { (s : Site) → result ≡ is_upstream (field_at s upstream) number }
 {
     match upstream {
         Ok(Some(a)) => a == number,

@@ -3,9 +3,9 @@
 
 ghost use Rattle.std.specs.Prelude.{◌/◌, ◌<◌, ◌≡◌};
 ghost use Rattle.refusal.specs.declared.Site.{Site};
-ghost use Rattle.state.specs.State.{speed_outcome};
-ghost use Rattle.adapter.specs.Adapter.{facts_row, max_hop_outcome};
+ghost use Rattle.adapter.specs.Adapter.{facts_row};
 ghost use Rattle.tables.specs.Packed.{type_by, state_by, speed_by, number_by, adapter_word};
+ghost use Rattle.refusal.specs.Refusal.{field_at};
 
 use adapter::Facts;
 use refusal::FieldError;
@@ -87,7 +87,7 @@ fn state_by(number: u64) -> State
 
 // A speed by its number, or that it is refused.
 fn speed_by(number: u64) -> Result<Speed, FieldError>
-    ensures { (s : Site) → speed_outcome s result ≡ speed_by s number }
+    ensures { (s : Site) → field_at s result ≡ speed_by s number }
 {
     if number == 1 {
         return Ok(Speed::Gen2);
@@ -107,7 +107,7 @@ fn speed_by(number: u64) -> Result<Speed, FieldError>
 // A largest HopID by its code.
 fn max_hop_by(code: u64) -> Result<Option<u32>, FieldError>
     requires { code < 1048576 }
-    ensures { (s : Site) → max_hop_outcome s result ≡ number_by s code }
+    ensures { (s : Site) → field_at s result ≡ number_by s code }
 {
     if code < 1 {
         return Ok(None);

@@ -9,7 +9,7 @@ use lib.Dec.{eqb}
 use lib.ListN.{length}
 use borrow.Author.Tests.{eq-eqb, ne_eqb}
 use Rattle.refusal.specs.Outcome.{Outcome, refused, value, bind}
-use Rattle.refusal.specs.Refusal.{at, refusal_of}
+use Rattle.refusal.specs.Refusal.{at, refusal_of, fault_outcome, field_at}
 use Rattle.refusal.specs.declared.Fault.TheVariants.{NoField, BadAdapters}
 use Rattle.util.specs.Text.{bytes_of}
 use Rattle.layout.specs.Layout.{word}
@@ -21,14 +21,13 @@ use Rattle.survey.specs.Devices.{Adapter, register_in}
 use Rattle.listing.specs.After.{after, register_at, device_at}
 use Rattle.numbering.specs.Numbered.{numbered}
 use Rattle.named.specs.Named.{Named, router_space, by_name, sited, wanted_field, named_at, Within, named_in}
-use Rattle.refusal.specs.Refusal.{field_read}
+use Rattle.refusal.specs.Refusal.{field_read, fault_outcome, field_at}
 use Rattle.named.specs.declared.NamedAt.{NamedAt}
 use Rattle.named.proofs.Laws.{wanted_field_lem}
 use Rattle.adapter.specs.Adapter.{adapter_site}
-use Rattle.tables.specs.Found.{upstream_outcome}
 use Rattle.load.specs.Loading.{itself, router_cs1, upstream_in, fitting}
 use Rattle.load.specs.Work.{fits_by}
-use Rattle.refusal.specs.Refusal.{fault_outcome}
+use Rattle.refusal.specs.Refusal.{fault_outcome, field_at}
 use Rattle.refusal.specs.declared.FieldError.{FieldError}
 use Rattle.refusal.specs.declared.FieldError.TheVariants as field
 
@@ -58,8 +57,8 @@ module _ (d t : List ℕ) (i w : ℕ) (ew : w ≡ word t i) where
 
 -- by ROUTER_CS_1 at places of the survey t and of the descriptions d, or by its absence
 module _ (d t : List ℕ) (f : Option NamedAt) where
-  pub upstream_none : f ≡ None → (p : ℕ) → upstream_outcome (adapter_site p 0) (Ok None) ≡ upstream_in p (named_at d t f)
-  unfolding upstream_outcome upstream_in named_at
+  pub upstream_none : f ≡ None → (p : ℕ) → field_at (adapter_site p 0) (Ok None) ≡ upstream_in p (named_at d t f)
+  unfolding upstream_in named_at
   upstream_none k p = ap (λ z. upstream_in p (named_at d t z)) (sym k)
 
   pub fits_none : f ≡ None → (p : ℕ) (l : List Adapter) → fault_outcome (Err (BadAdapters p)) ≡ fitting p l (named_at d t f)
@@ -88,12 +87,12 @@ module _ (d t : List ℕ) (f : Option NamedAt) where
       abbrev up_to : Outcome ℕ → Outcome (Option ℕ)
       up_to o = bind o (λ v. value (Some (v % 256)))
 
-      pub upstream_lacks : r ≡ (Err field.NoField) → upstream_outcome (adapter_site p 0) (Err field.NoField) ≡ upstream_in p (named_at d t f)
-      unfolding upstream_outcome refusal_of upstream_in named_at bind itself
+      pub upstream_lacks : r ≡ (Err field.NoField) → field_at (adapter_site p 0) (Err field.NoField) ≡ upstream_in p (named_at d t f)
+      unfolding refusal_of upstream_in named_at bind itself
       upstream_lacks m = ap (λ o. up_to o) (its_lack r _ h m) ∙ ap (λ z. upstream_in p (named_at d t z)) (sym k)
 
-      pub upstream_has : (x : ℕ) → r ≡ Ok x → upstream_outcome (adapter_site p 0) (Ok (Some (x % 256))) ≡ upstream_in p (named_at d t f)
-      unfolding upstream_outcome upstream_in named_at bind itself
+      pub upstream_has : (x : ℕ) → r ≡ Ok x → field_at (adapter_site p 0) (Ok (Some (x % 256))) ≡ upstream_in p (named_at d t f)
+      unfolding upstream_in named_at bind itself
       upstream_has x m = ap (λ o. up_to o) (its_value r _ h x m) ∙ ap (λ z. upstream_in p (named_at d t z)) (sym k)
 
     -- fits_router: Max Adapter, then Upstream Adapter, then the numbers

@@ -13,7 +13,7 @@ use lib.ListN.{length, take, set}
 use lib.Seq.{take-suc-set, length-take-le}
 use borrow.Author.Tests.{eq-eqb, ne_eqb}
 use Rattle.refusal.specs.Outcome.{Outcome, refused, value, bind}
-use Rattle.refusal.specs.Refusal.{refusal_of}
+use Rattle.refusal.specs.Refusal.{refusal_of, fault_outcome, field_at}
 use Rattle.refusal.proofs.Laws.{fault_bind}
 use Rattle.refusal.specs.declared.Fault.{Fault}
 use Rattle.refusal.specs.declared.Fault.TheVariants.{FewRegisters}
@@ -29,7 +29,6 @@ use Rattle.listing.proofs.Laws.{after_end, adapter_head_lem, device_head_lem, re
 use Rattle.tables.specs.Rows.{DeviceRow, Rows, no_rows, joined}
 use Rattle.usb4.specs.Codes.{device_kind_of}
 use Rattle.adapter.specs.Adapter.{adapter_site}
-use Rattle.tables.specs.Found.{upstream_outcome}
 use Rattle.tables.specs.Packed.{entry_word, adapter_word, device_word, entries_in, adapters_in, devices_from, devices_in}
 use Rattle.tables.proofs.Laws.{rising_entries, rising_adapters}
 use Rattle.load.specs.Loading.{itself, and_then, load_adapter, load_adapters, router_cs1, upstream_in, device_row, device_rows, fits, no_registers, load_device, load_from, loaded}
@@ -39,7 +38,7 @@ use Rattle.refusal.specs.declared.Refusal.TheVariants as refusal
 use Rattle.load.specs.Work.{rows_so_far, Passed, adapter_rows, AdapterWithin, adapters_rows, AdaptersWithin, ToDevice, fits_by, device_load_rows, DeviceWithin, with_device, filled_rows, FilledWithin, into_rows, IntoWithin}
 use Rattle.load.specs.declared.Loaded.{Loaded}
 use Rattle.load.proofs.Order.{entries_rise, adapters_rise}
-use Rattle.refusal.specs.Refusal.{fault_outcome, outcome}
+use Rattle.refusal.specs.Refusal.{fault_outcome, outcome, field_at}
 use Rattle.refusal.proofs.Laws.{ended}
 use Rattle.refusal.specs.declared.FieldError.{FieldError}
 use Rattle.load.specs.Work.{adapter_loaded}
@@ -325,13 +324,13 @@ module _ (t : List ℕ) (at w : ℕ) (e : w ≡ word t at) where
   same_usb4 = ap (λ x. eqb x 1) (let z : w % 2 ≡ bits (word t at) 0 0 = omega (arith, e) in z)
 
   -- its mark's row
-  pub mark_row : (ds : List Description) (p m : ℕ) (domain : ℕ) (up : Result (Option ℕ) FieldError) → domain ≡ word t (at + 1) → upstream_outcome (adapter_site p 0) up ≡ upstream_in p (router_cs1 ds (device_at t at)) → ((p route : ℕ) → device_word p route m ≡ record { kind = device_kind_of (w / 16777216 % 16); usb4 = eqb (w % 2) 1; domain = domain; route = route; upstream = upstream_outcome (adapter_site p 0) up }) → device_word p (device_at t at).route m ≡ device_row ds p (device_at t at)
+  pub mark_row : (ds : List Description) (p m : ℕ) (domain : ℕ) (up : Result (Option ℕ) FieldError) → domain ≡ word t (at + 1) → field_at (adapter_site p 0) up ≡ upstream_in p (router_cs1 ds (device_at t at)) → ((p route : ℕ) → device_word p route m ≡ record { kind = device_kind_of (w / 16777216 % 16); usb4 = eqb (w % 2) 1; domain = domain; route = route; upstream = field_at (adapter_site p 0) up }) → device_word p (device_at t at).route m ≡ device_row ds p (device_at t at)
   unfolding device_row device_at
   mark_row ds p m domain up d u f =
       f p (device_at t at).route
-      ∙ ap (λ x. record { kind = device_kind_of (x / 16777216 % 16); usb4 = eqb (w % 2) 1; domain = domain; route = (device_at t at).route; upstream = upstream_outcome (adapter_site p 0) up }) e
-      ∙ ap (λ x. record { kind = device_kind_of (device_at t at).kind; usb4 = x; domain = domain; route = (device_at t at).route; upstream = upstream_outcome (adapter_site p 0) up }) same_usb4
-      ∙ ap (λ x. record { kind = device_kind_of (device_at t at).kind; usb4 = (device_at t at).usb4; domain = x; route = (device_at t at).route; upstream = upstream_outcome (adapter_site p 0) up }) d
+      ∙ ap (λ x. record { kind = device_kind_of (x / 16777216 % 16); usb4 = eqb (w % 2) 1; domain = domain; route = (device_at t at).route; upstream = field_at (adapter_site p 0) up }) e
+      ∙ ap (λ x. record { kind = device_kind_of (device_at t at).kind; usb4 = x; domain = domain; route = (device_at t at).route; upstream = field_at (adapter_site p 0) up }) same_usb4
+      ∙ ap (λ x. record { kind = device_kind_of (device_at t at).kind; usb4 = (device_at t at).usb4; domain = x; route = (device_at t at).route; upstream = field_at (adapter_site p 0) up }) d
       ∙ ap (λ x. record { kind = device_kind_of (device_at t at).kind; usb4 = (device_at t at).usb4; domain = (device_at t at).domain; route = (device_at t at).route; upstream = x }) u
 
 pub fits_by_lem : (ds : List Description) (p : ℕ) (d : Device) (as' : List Adapter) → fits ds p d as' ≡ fits_by p as' (router_cs1 ds d)

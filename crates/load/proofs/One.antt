@@ -10,7 +10,7 @@ use lib.ListN.{take}
 use borrow.Author.Tests.{leb-true, ne_eqb}
 use Rattle.refusal.proofs.Laws.{fault_bind}
 use Rattle.refusal.specs.Outcome.{Outcome, refused, value, bind}
-use Rattle.refusal.specs.Refusal.{at, refusal_of}
+use Rattle.refusal.specs.Refusal.{at, refusal_of, field_at}
 use Rattle.refusal.specs.declared.Site.{Site}
 use Rattle.refusal.specs.declared.Fault.{Fault}
 use Rattle.refusal.specs.declared.Fault.TheVariants.{FewRegisters, NoField, NoPathDump}
@@ -21,7 +21,7 @@ use Rattle.layout.specs.Description.{Description}
 use Rattle.survey.specs.Devices.{Adapter}
 use Rattle.listing.specs.After.{after, adapter_at}
 use Rattle.named.specs.Named.{Named}
-use Rattle.adapter.specs.Adapter.{kind_of, min_hop, narrow, max_hop_in, max_hop, parse_state, AdapterRow, adapter_site, few_registers, row_of, decode_of, max_hop_outcome, facts_row, decoded_outcome}
+use Rattle.adapter.specs.Adapter.{kind_of, min_hop, narrow, max_hop_in, max_hop, parse_state, AdapterRow, adapter_site, few_registers, row_of, decode_of, facts_row, decoded_outcome}
 use Rattle.adapter.specs.Paths.{PathEntry, entries_by, entries_of}
 use Rattle.adapter.specs.declared.Facts.{Facts}
 use Rattle.tables.specs.Rows.{EntryRow, Rows, no_rows, joined}
@@ -64,8 +64,8 @@ unfolding bind narrow
 field_fits v (refused n vs) e = absurd (no_value (Some v) n vs e)
 field_fits v (value x) e = some_fits v x (leb x 65535) refl (same_value _ _ e)
 
-hop_fits : (s z : Site) (h : Result (Option ℕ) FieldError) (o : Option Named) → max_hop_outcome s h ≡ max_hop_in z o → HopFits h
-unfolding HopFits max_hop_outcome max_hop_in
+hop_fits : (s z : Site) (h : Result (Option ℕ) FieldError) (o : Option Named) → field_at s h ≡ max_hop_in z o → HopFits h
+unfolding HopFits max_hop_in
 hop_fits s z (Ok (Some v)) None e = let y : ◌≡◌ {A = Option ℕ} (Some v) None = same_value _ _ e in let x : ◌≡◌ {A = ℕ} 0 1 = cc in absurd (omega arith)
 hop_fits s z (Ok (Some v)) (Some n) e = field_fits v _ e
 hop_fits s z (Ok None) o e = omega arith

@@ -15,15 +15,14 @@ use Rattle.usb4.specs.declared.State.{State}
 use Rattle.usb4.specs.declared.State.TheVariants as state
 use Rattle.usb4.specs.declared.Speed.{Speed}
 use Rattle.usb4.specs.declared.Speed.TheVariants as speed
-use Rattle.state.specs.State.{speed_outcome}
-use Rattle.adapter.specs.Adapter.{adapter_site, facts_row, max_hop_outcome}
+use Rattle.adapter.specs.Adapter.{adapter_site, facts_row}
 use Rattle.adapter.specs.declared.Facts.{Facts}
-use Rattle.tables.specs.Found.{upstream_outcome}
 use Rattle.tables.specs.Packed.{entry_word, speed_by, number_by, upstream_by, adapter_word, device_word}
 use Rattle.tables.proofs.Laws.{type_round, state_round, speed_round}
 use Rattle.load.specs.Work.{HopFits}
 use Rattle.refusal.specs.declared.FieldError.{FieldError}
 use Rattle.refusal.specs.declared.FieldError.TheVariants as field
+use Rattle.refusal.specs.Refusal.{field_at}
 
 pub entry_word_lem : (w p a i o h : ℕ) → w ≡ p * 281474976710656 + a * 1099511627776 + i * 16777216 + o * 65536 + h → a < 256 → i < 65536 → o < 256 → h < 65536
     → entry_word w ≡ record { device = p; adapter = a; in_hop = i; out_adapter = o; out_hop = h }
@@ -70,13 +69,12 @@ speed_bound speed.Gen3 = omega arith
 speed_bound speed.Gen4 = omega arith
 
 -- what the codes stand for
-pub speed_told : (f : Result Speed FieldError) (v : Speed) (r : ℕ) → f ≡ Ok v → r ≡ speed_number v → (r < 16) × ((s : Site) → speed_by s r ≡ speed_outcome s f)
-unfolding speed_outcome
-speed_told f v r e k = (omega (arith, speed_bound v), λ s. ap (λ n. speed_by s n) k ∙ speed_round s v ∙ ap (λ x. speed_outcome s x) (sym e))
+pub speed_told : (f : Result Speed FieldError) (v : Speed) (r : ℕ) → f ≡ Ok v → r ≡ speed_number v → (r < 16) × ((s : Site) → speed_by s r ≡ field_at s f)
+speed_told f v r e k = (omega (arith, speed_bound v), λ s. ap (λ n. speed_by s n) k ∙ speed_round s v ∙ ap (λ x. field_at s x) (sym e))
 
-pub speed_refused : (f : Result Speed FieldError) → f ≡ (Err field.NoField) → (4 < 16) × ((s : Site) → speed_by s 4 ≡ speed_outcome s f)
-unfolding speed_by speed_outcome
-speed_refused f e = (omega arith, λ s. ap (λ x. speed_outcome s x) (sym e))
+pub speed_refused : (f : Result Speed FieldError) → f ≡ (Err field.NoField) → (4 < 16) × ((s : Site) → speed_by s 4 ≡ field_at s f)
+unfolding speed_by
+speed_refused f e = (omega arith, λ s. ap (λ x. field_at s x) (sym e))
 
 two_more : (n : ℕ) → n + 2 ≡ suc (suc n)
 two_more n = omega arith
@@ -86,32 +84,32 @@ module _ (f : Result (Option ℕ) FieldError) where
   unfolding HopFits
   hop_bound h e l = subst (λ x. HopFits x) e l
 
-  pub hop_told : (h : ℕ) → f ≡ Ok (Some h) → HopFits f → (h + 2 < 1048576) × ((s : Site) → number_by s (h + 2) ≡ max_hop_outcome s f)
-  unfolding number_by max_hop_outcome
-  hop_told h e l = (omega (arith, hop_bound h e l), λ s. ap (λ n. number_by s n) (two_more h) ∙ ap (λ x. max_hop_outcome s x) (sym e))
+  pub hop_told : (h : ℕ) → f ≡ Ok (Some h) → HopFits f → (h + 2 < 1048576) × ((s : Site) → number_by s (h + 2) ≡ field_at s f)
+  unfolding number_by
+  hop_told h e l = (omega (arith, hop_bound h e l), λ s. ap (λ n. number_by s n) (two_more h) ∙ ap (λ x. field_at s x) (sym e))
 
-  pub hop_none : f ≡ (Ok None) → (0 < 1048576) × ((s : Site) → number_by s 0 ≡ max_hop_outcome s f)
-  unfolding number_by max_hop_outcome
-  hop_none e = (omega arith, λ s. ap (λ x. max_hop_outcome s x) (sym e))
+  pub hop_none : f ≡ (Ok None) → (0 < 1048576) × ((s : Site) → number_by s 0 ≡ field_at s f)
+  unfolding number_by
+  hop_none e = (omega arith, λ s. ap (λ x. field_at s x) (sym e))
 
-  pub hop_refused : f ≡ (Err field.NoField) → (1 < 1048576) × ((s : Site) → number_by s 1 ≡ max_hop_outcome s f)
-  unfolding number_by max_hop_outcome
-  hop_refused e = (omega arith, λ s. ap (λ x. max_hop_outcome s x) (sym e))
+  pub hop_refused : f ≡ (Err field.NoField) → (1 < 1048576) × ((s : Site) → number_by s 1 ≡ field_at s f)
+  unfolding number_by
+  hop_refused e = (omega arith, λ s. ap (λ x. field_at s x) (sym e))
 
 module _ (f : Result (Option ℕ) FieldError) where
-  pub upstream_told : (a : ℕ) → f ≡ Ok (Some a) → a < 256 → (a + 2 < 65536) × ((s : Site) → upstream_by s (a + 2) ≡ upstream_outcome s f)
-  unfolding upstream_by upstream_outcome
+  pub upstream_told : (a : ℕ) → f ≡ Ok (Some a) → a < 256 → (a + 2 < 65536) × ((s : Site) → upstream_by s (a + 2) ≡ field_at s f)
+  unfolding upstream_by
   upstream_told a e l =
       let m : a % 256 ≡ a = omega arith in
-      (omega arith, λ s. ap (λ n. upstream_by s n) (two_more a) ∙ ap (λ n. value (Some n)) m ∙ ap (λ x. upstream_outcome s x) (sym e))
+      (omega arith, λ s. ap (λ n. upstream_by s n) (two_more a) ∙ ap (λ n. value (Some n)) m ∙ ap (λ x. field_at s x) (sym e))
 
-  pub upstream_none : f ≡ (Ok None) → (0 < 65536) × ((s : Site) → upstream_by s 0 ≡ upstream_outcome s f)
-  unfolding upstream_by upstream_outcome
-  upstream_none e = (omega arith, λ s. ap (λ x. upstream_outcome s x) (sym e))
+  pub upstream_none : f ≡ (Ok None) → (0 < 65536) × ((s : Site) → upstream_by s 0 ≡ field_at s f)
+  unfolding upstream_by
+  upstream_none e = (omega arith, λ s. ap (λ x. field_at s x) (sym e))
 
-  pub upstream_refused : f ≡ (Err field.NoField) → (1 < 65536) × ((s : Site) → upstream_by s 1 ≡ upstream_outcome s f)
-  unfolding upstream_by upstream_outcome
-  upstream_refused e = (omega arith, λ s. ap (λ x. upstream_outcome s x) (sym e))
+  pub upstream_refused : f ≡ (Err field.NoField) → (1 < 65536) × ((s : Site) → upstream_by s 1 ≡ field_at s f)
+  unfolding upstream_by
+  upstream_refused e = (omega arith, λ s. ap (λ x. field_at s x) (sym e))
 
 -- the parts of an adapter's word
 record Parts (w p a h k t v z o : ℕ) : Type 0 where
@@ -129,10 +127,10 @@ parts w p a h k t v z o e la lh lk lt lv lz lo = record { device = omega arith; 
 
 -- a word made of codes that stand for an adapter's facts is its row
 module _ (p h k t v z o : ℕ) (f : Facts) (la : f.number < 256)
-    (eh : (h < 1048576) × ((s : Site) → number_by s h ≡ max_hop_outcome s f.max_hop))
+    (eh : (h < 1048576) × ((s : Site) → number_by s h ≡ field_at s f.max_hop))
     (ek : k ≡ type_number f.kind)
     (et : t ≡ state_number f.state)
-    (ev : (v < 16) × ((s : Site) → speed_by s v ≡ speed_outcome s f.speed))
+    (ev : (v < 16) × ((s : Site) → speed_by s v ≡ field_at s f.speed))
     (ez : (z < 2) × (eqb z 1 ≡ f.lane0))
     (eo : (o < 2) × (eqb o 1 ≡ f.lane1)) where
   pub adapter_word_lem : adapter_word (p * 281474976710656 + f.number * 1099511627776 + h * 1048576 + k * 65536 + t * 4096 + v * 256 + z * 16 + o) ≡ facts_row p f
@@ -147,8 +145,8 @@ mark_parts : (w b k c d : ℕ) → w ≡ b * 4503599627370496 + k * 281474976710
     → (w / 2 ^ 48 % 16 ≡ k) × (w / 2 ^ 52 % 16 ≡ b) × (w % 2 ^ 32 ≡ d) × (w / 2 ^ 32 % 2 ^ 16 ≡ c)
 mark_parts w b k c d e lb lk lc ld = (omega arith, omega arith, omega arith, omega arith)
 
-module _ (k d b c : ℕ) (usb4 : Bool) (f : Result (Option ℕ) FieldError) (lk : k < 16) (ld : d < 4294967296) (eb : (b < 2) × (eqb b 1 ≡ usb4)) (ec : (c < 65536) × ((s : Site) → upstream_by s c ≡ upstream_outcome s f)) where
-  pub mark_word : (p route : ℕ) → device_word p route (b * 4503599627370496 + k * 281474976710656 + c * 4294967296 + d) ≡ record { kind = device_kind_of k; usb4 = usb4; domain = d; route = route; upstream = upstream_outcome (adapter_site p 0) f }
+module _ (k d b c : ℕ) (usb4 : Bool) (f : Result (Option ℕ) FieldError) (lk : k < 16) (ld : d < 4294967296) (eb : (b < 2) × (eqb b 1 ≡ usb4)) (ec : (c < 65536) × ((s : Site) → upstream_by s c ≡ field_at s f)) where
+  pub mark_word : (p route : ℕ) → device_word p route (b * 4503599627370496 + k * 281474976710656 + c * 4294967296 + d) ≡ record { kind = device_kind_of k; usb4 = usb4; domain = d; route = route; upstream = field_at (adapter_site p 0) f }
   unfolding device_word
   mark_word p route =
       let m = mark_parts _ b k c d refl (omega (arith, eb.0)) lk ec.0 ld in

@@ -10,15 +10,13 @@ ghost use Rattle.usb4.specs.Codes.{device_kind_of};
 ghost use Rattle.named.specs.Named.{named_at, Within};
 ghost use Rattle.survey.specs.Devices.{devices_of};
 ghost use Rattle.listing.specs.After.{after, adapter_at, device_at, register_at};
-ghost use Rattle.adapter.specs.Adapter.{adapter_site, facts_row, min_hop, max_hop_outcome};
-ghost use Rattle.state.specs.State.{speed_outcome};
+ghost use Rattle.adapter.specs.Adapter.{adapter_site, facts_row, min_hop};
 ghost use Rattle.adapter.specs.Paths.{entries_from, entries_by};
-ghost use Rattle.tables.specs.Found.{upstream_outcome};
 ghost use Rattle.tables.specs.Packed.{speed_by, number_by, upstream_by, entry_word, adapter_word, device_word, entries_in};
 ghost use Rattle.load.specs.Loading.{and_then, owned, load_adapter, load_adapters, router_cs1, upstream_in, fitting, load_device, load_from, loaded};
 ghost use Rattle.load.specs.Answers.{loaded_rows, UsableBy, counts_of};
 ghost use Rattle.load.specs.Work.{HopFits, rows_so_far, pushed_rows, FieldsAt, KeptFor, OneMore, PushedWithin, adapter_rows, AdapterWithin, adapters_rows, AdaptersWithin, fits_by, device_load_rows, DeviceWithin, filled_rows, FilledWithin, into_rows, IntoWithin};
-ghost use Rattle.refusal.specs.Refusal.{fault_outcome, outcome};
+ghost use Rattle.refusal.specs.Refusal.{fault_outcome, outcome, field_at};
 
 use adapter::Facts;
 use named::NamedAt;
@@ -98,7 +96,7 @@ fn entry_word(place: usize, adapter: u8, in_hop: u32, out_adapter: u8, out_hop: 
 
 // A speed as a code: its number, or 4 where it is refused.
 fn speed_code(speed: Result<Speed, FieldError>) -> u64
-    ensures { (result < 16) × ((s : Site) → speed_by s result ≡ speed_outcome s speed) }
+    ensures { (result < 16) × ((s : Site) → speed_by s result ≡ field_at s speed) }
 {
     match speed {
         Ok(v) => usb4::speed_number(v) as u64,
@@ -109,7 +107,7 @@ fn speed_code(speed: Result<Speed, FieldError>) -> u64
 // A largest HopID as a code: 0 none, 1 refused, else the number and 2.
 fn hop_code(hop: Result<Option<u32>, FieldError>) -> u64
     requires { HopFits hop }
-    ensures { (result < 1048576) × ((s : Site) → number_by s result ≡ max_hop_outcome s hop) }
+    ensures { (result < 1048576) × ((s : Site) → number_by s result ≡ field_at s hop) }
 {
     match hop {
         Ok(Some(h)) => h as u64 + 2,
@@ -146,7 +144,7 @@ fn adapter_word(place: usize, f: Facts) -> u64
 
 // An upstream adapter as a code: 0 none, 1 refused, else the number and 2.
 fn upstream_code(upstream: Result<Option<u8>, FieldError>) -> u64
-    ensures { (result < 65536) × ((s : Site) → upstream_by s result ≡ upstream_outcome s upstream) }
+    ensures { (result < 65536) × ((s : Site) → upstream_by s result ≡ field_at s upstream) }
 {
     match upstream {
         Ok(Some(a)) => a as u64 + 2,
@@ -158,7 +156,7 @@ fn upstream_code(upstream: Result<Option<u8>, FieldError>) -> u64
 // A device's mark: USB4, kind, upstream adapter, domain.
 fn mark_word(kind: u32, usb4: bool, domain: u32, upstream: Result<Option<u8>, FieldError>) -> u64
     requires { kind < 16 }
-    ensures { (p route : ℕ) → device_word p route result ≡ record { kind = device_kind_of kind; usb4 = usb4; domain = domain; route = route; upstream = upstream_outcome (adapter_site p 0) upstream } }
+    ensures { (p route : ℕ) → device_word p route result ≡ record { kind = device_kind_of kind; usb4 = usb4; domain = domain; route = route; upstream = field_at (adapter_site p 0) upstream } }
 {
     bit(usb4) * 4503599627370496
         + (kind as u64) * 281474976710656
@@ -400,7 +398,7 @@ fn upstream_of(
     cs1: Option<NamedAt>,
 ) -> Result<Option<u8>, FieldError>
     requires { Within (length survey.now) cs1 }
-    ensures { (p : ℕ) → upstream_outcome (adapter_site p 0) result ≡ upstream_in p (named_at descriptions.now survey.now cs1) }
+    ensures { (p : ℕ) → field_at (adapter_site p 0) result ≡ upstream_in p (named_at descriptions.now survey.now cs1) }
 {
     let Some(NamedAt { register, group }) = cs1 else {
         return Ok(None);

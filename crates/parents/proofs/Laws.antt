@@ -13,7 +13,7 @@ use Rattle.route.specs.Route.{upstream_route}
 use Rattle.adapter.specs.Adapter.{AdapterRow, adapter_site}
 use Rattle.tables.specs.Rows.{Rows, DeviceRow, adapter_in, device_in, is_router}
 use Rattle.tables.specs.Packed.{entries_in, devices_in}
-use Rattle.tables.specs.Found.{upstream_outcome, device_row}
+use Rattle.tables.specs.Found.{device_row}
 use Rattle.tables.specs.declared.DeviceFacts.{DeviceFacts}
 use Rattle.load.specs.Loading.{loaded}
 use Rattle.load.specs.Answers.{loaded_rows, UsableBy, present}
@@ -24,19 +24,19 @@ use Rattle.fabric.specs.Tables.{rows_with}
 use Rattle.fabric.specs.Links.{route_or, upstream_route_of}
 use Rattle.parents.specs.Parents.{router_at, parent_by, upstream_in, router_parent, is_xdomain, xdomain_parent, parent_of, parent_answer}
 use Rattle.parents.specs.Tables.{ParentIs}
-use Rattle.refusal.specs.Refusal.{outcome}
+use Rattle.refusal.specs.Refusal.{outcome, field_at}
 use Rattle.refusal.specs.declared.Refusal.{Refusal}
 use Rattle.refusal.specs.declared.FieldError.{FieldError}
 use Rattle.load.specs.Answers.{counted}
 
 -- a router's, by what its upstream adapter is, by whether that adapter is there, and by the route before it
 module _ (x : Rows) (p : ℕ) (d : DeviceFacts) where
-  pub by_upstream : (u : Result (Option ℕ) FieldError) → d.upstream ≡ u → bind (upstream_outcome (adapter_site p 0) u) (λ a. parent_by x p (device_row p d) (upstream_in x p a)) ≡ router_parent x p (device_row p d)
+  pub by_upstream : (u : Result (Option ℕ) FieldError) → d.upstream ≡ u → bind (field_at (adapter_site p 0) u) (λ a. parent_by x p (device_row p d) (upstream_in x p a)) ≡ router_parent x p (device_row p d)
   unfolding router_parent device_row
-  by_upstream u e = ap (λ (v : Result (Option ℕ) FieldError). bind (upstream_outcome (adapter_site p 0) v) (λ a. parent_by x p (device_row p d) (upstream_in x p a))) (sym e)
+  by_upstream u e = ap (λ (v : Result (Option ℕ) FieldError). bind (field_at (adapter_site p 0) v) (λ a. parent_by x p (device_row p d) (upstream_in x p a))) (sym e)
 
   pub by_adapter : (a : ℕ) (o : Option AdapterRow) → d.upstream ≡ Ok (Some a) → o ≡ adapter_in x.adapters p a → parent_by x p (device_row p d) o ≡ router_parent x p (device_row p d)
-  unfolding upstream_outcome bind upstream_in
+  unfolding bind upstream_in
   by_adapter a o e g = ap (parent_by x p (device_row p d)) g ∙ by_upstream (Ok (Some a)) e
 
   pub by_route : (a : ℕ) (y : AdapterRow) (o : Outcome (Option ℕ)) → d.upstream ≡ Ok (Some a) → Some y ≡ adapter_in x.adapters p a → o ≡ upstream_route_of p (device_row p d) y

@@ -5,7 +5,8 @@ use Prim.Native.Nat.{ℕ}
 use mathlib.Core.List.{List}
 use Rattle.std.specs.Prelude.{Result, Ok, Err}
 use Rattle.refusal.specs.Outcome.{Outcome, refused, value, bind}
-use Rattle.refusal.specs.Refusal.{refusal_of, refused_by, outcome, fault_outcome}
+use Rattle.refusal.specs.Refusal.{refusal_of, refused_by, of_walk, outcome_by, outcome, walk_outcome, fault_outcome}
+use Rattle.refusal.specs.declared.WalkError.{WalkError}
 use Rattle.refusal.specs.declared.Fault.{Fault}
 use Rattle.refusal.specs.declared.Fault.TheVariants.{FewRegisters, NoField, BadAdapters, GenTOffset, NoPathDump, NoOutAdapter, NoParentRoute, NoDownstreamRoute, Endless}
 use Rattle.refusal.specs.declared.Refusal.{Refusal}
@@ -57,23 +58,39 @@ numbered A refusal.NoField = (_, _, refl)
 numbered A (refusal.Fault f) = fault_numbered A f
 numbered A refusal.Missing = (_, _, refl)
 
--- what `?` does, by the outcome o of the call before it: it ends with the call's refusal, or goes on with its value
+pub walk_bind : {A B : Type 0} (e : WalkError) (g : A → Outcome B) → bind (refused_by (of_walk e)) g ≡ refused_by (of_walk e)
+walk_bind e g = refused_bind (of_walk e) g
+
+-- What `?` does, by the outcome o of the call before it: it ends with the call's refusal, or goes on with its value.
+-- r and s give a refusal's number and values, whatever is answered else.
+module _ {A B E : Type 0} (r : E → Outcome A) (s : E → Outcome B) (through : (e : E) (g : A → Outcome B) → bind (r e) g ≡ s e) (q : Result A E) (o : Outcome A) (is : outcome_by r q ≡ o) (g : A → Outcome B) where
+  ended_by : (e : E) → q ≡ Err e → outcome_by s (Err e) ≡ bind o g
+  ended_by e k = sym (through e g) ∙ ap (λ (w : Outcome A). bind w g) (sym (ap (outcome_by r) k) ∙ is)
+
+  gone_on_by : (a : A) → q ≡ Ok a → bind o g ≡ g a
+  unfolding bind
+  gone_on_by a k = ap (λ (w : Outcome A). bind w g) (sym is ∙ ap (outcome_by r) k)
+
 module _ {A B : Type 0} (q : Result A Refusal) (o : Outcome A) (e : outcome q ≡ o) (g : A → Outcome B) where
   pub ended : (r : Refusal) → q ≡ Err r → outcome (Err r) ≡ bind o g
-  ended r k = sym (refused_bind r g) ∙ ap (λ (w : Outcome A). bind w g) (sym (ap outcome k) ∙ e)
+  ended = ended_by refused_by refused_by refused_bind q o e g
 
   pub gone_on : (a : A) → q ≡ Ok a → bind o g ≡ g a
-  unfolding bind
-  gone_on a k = ap (λ (w : Outcome A). bind w g) (sym e ∙ ap outcome k)
+  gone_on = gone_on_by refused_by refused_by refused_bind q o e g
 
--- the same of a part of loading, which meets faults alone
+module _ {A B : Type 0} (q : Result A WalkError) (o : Outcome A) (e : walk_outcome q ≡ o) (g : A → Outcome B) where
+  pub walk_ended : (r : WalkError) → q ≡ Err r → walk_outcome (Err r) ≡ bind o g
+  walk_ended = ended_by (λ r. refused_by (of_walk r)) (λ r. refused_by (of_walk r)) walk_bind q o e g
+
+  pub walk_gone_on : (a : A) → q ≡ Ok a → bind o g ≡ g a
+  walk_gone_on = gone_on_by (λ r. refused_by (of_walk r)) (λ r. refused_by (of_walk r)) walk_bind q o e g
+
 module _ {A B : Type 0} (q : Result A Fault) (o : Outcome A) (e : fault_outcome q ≡ o) (g : A → Outcome B) where
   pub fault_ended : (f : Fault) → q ≡ Err f → fault_outcome (Err f) ≡ bind o g
-  fault_ended f k = sym (fault_bind f g) ∙ ap (λ (w : Outcome A). bind w g) (sym (ap fault_outcome k) ∙ e)
+  fault_ended = ended_by refusal_of refusal_of fault_bind q o e g
 
   pub fault_gone_on : (a : A) → q ≡ Ok a → bind o g ≡ g a
-  unfolding bind
-  fault_gone_on a k = ap (λ (w : Outcome A). bind w g) (sym e ∙ ap fault_outcome k)
+  fault_gone_on = gone_on_by refusal_of refusal_of fault_bind q o e g
 
 pub not_refused : {A : Type 0} (r : Refusal) (a : A) → refused_by r ≡ value a → ⊥
 not_refused {A} r a e = let x = numbered A r in absurd (let z : ◌≡◌ {A = ℕ} 0 1 = cc in omega arith)

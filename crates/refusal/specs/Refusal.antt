@@ -1,9 +1,11 @@
--- Document 01, "When it says no": the number and the values of each fault of loading, walks and discovery. Assumes nothing.
+-- Document 01, "When it says no": the number and the values of each refusal. Assumes nothing.
 use Rattle.std.specs.Prelude.{ℕ, List, [], ◌∷◌, Result, Ok, Err}
 use Rattle.refusal.specs.Outcome.{Outcome, refused, value}
 use Rattle.refusal.specs.declared.Site.{Site}
 use Rattle.refusal.specs.declared.Fault.{Fault}
 use Rattle.refusal.specs.declared.Refusal.{Refusal}
+use Rattle.refusal.specs.declared.WalkError.{WalkError}
+use Rattle.refusal.specs.declared.WalkError.TheVariants as walk
 use Rattle.refusal.specs.declared.FieldError.{FieldError}
 use Rattle.refusal.specs.declared.Refusal.TheVariants as refusal
 use Rattle.refusal.specs.declared.Fault.TheVariants.{FewRegisters, NoField, BadAdapters, GenTOffset, NoPathDump, NoOutAdapter, NoParentRoute, NoDownstreamRoute, Endless}
@@ -32,17 +34,32 @@ refused_by refusal.NoField = refused 6 []
 refused_by (refusal.Fault f) = refusal_of f
 refused_by refusal.Missing = refused 14 []
 
--- what a call answers, in document 01's numbers and values
-abbrev pub outcome : {A : Type 0} → Result A Refusal → Outcome A
-outcome (Ok a) = value a
-outcome (Err r) = refused_by r
+-- what refuses a walk refuses a call
+abbrev pub of_walk : WalkError → Refusal
+of_walk (walk.Fault f) = refusal.Fault f
+of_walk walk.Missing = refusal.Missing
 
--- the same of a part of loading, which meets faults alone
+-- what is answered, in document 01's numbers and values, by those of each refusal
+abbrev pub outcome_by : {A E : Type 0} → (E → Outcome A) → Result A E → Outcome A
+outcome_by f (Ok a) = value a
+outcome_by f (Err e) = f e
+
+-- by a call
+abbrev pub outcome : {A : Type 0} → Result A Refusal → Outcome A
+outcome = outcome_by refused_by
+
+-- by a walk on tables, which meets faults and 14 alone
+abbrev pub walk_outcome : {A : Type 0} → Result A WalkError → Outcome A
+walk_outcome = outcome_by (λ e. refused_by (of_walk e))
+
+-- by a part of loading, which meets faults alone
 abbrev pub fault_outcome : {A : Type 0} → Result A Fault → Outcome A
-fault_outcome (Ok a) = value a
-fault_outcome (Err f) = refusal_of f
+fault_outcome = outcome_by refusal_of
 
 -- a field or a flag that is wanted of a named register: 6 alone where it is missing
 abbrev pub field_read : {A : Type 0} → Result A FieldError → Outcome A
-field_read (Ok a) = value a
-field_read (Err e) = refused 6 []
+field_read = outcome_by (λ e. refused 6 [])
+
+-- the same at an adapter: 6 with its place
+abbrev pub field_at : {A : Type 0} → Site → Result A FieldError → Outcome A
+field_at s = outcome_by (λ e. refusal_of (NoField s))

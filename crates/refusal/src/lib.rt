@@ -3,6 +3,8 @@
 
 ghost use Rattle.std.specs.Prelude.{◌≡◌};
 ghost use Rattle.refusal.specs.declared.Refusal.TheVariants as refusal;
+ghost use Rattle.refusal.specs.declared.WalkError.TheVariants as walk;
+ghost use Rattle.refusal.specs.Refusal.{of_walk};
 
 #[derive(Clone, Copy)]
 pub struct Site {
@@ -33,6 +35,22 @@ pub enum Fault {
     Endless,
 }
 
+// What a walk and a discovery on tables refuse, before anything is written.
+#[derive(Clone, Copy)]
+pub enum WalkError {
+    Fault(Fault),
+    // There is no such device or adapter.
+    Missing,
+}
+
+impl From<Fault> for WalkError {
+    ghost from_gives = { λ f r. r ≡ walk.Fault f };
+
+    fn from(fault: Fault) -> WalkError {
+        WalkError::Fault(fault)
+    }
+}
+
 // What a call refuses. specs/Refusal.antt gives each its number and values.
 #[derive(Clone, Copy)]
 pub enum Refusal {
@@ -40,7 +58,7 @@ pub enum Refusal {
     NotAscii(usize),
     // A buffer that is too short, by what is needed, or a text that is too long, by its length.
     Short(usize),
-    // Description words that are not well formed, by the head place of the first group that breaks the rules.
+    // Description words that are not well formed, by the head place of the first group that breaks the rules; 16,384 where there are more words than that.
     Descriptions(usize),
     // Survey words that are not well formed, likewise, or a text that makes none, by the words made before the line that is wrong.
     Survey(usize),
@@ -60,7 +78,18 @@ impl From<Fault> for Refusal {
     }
 }
 
-// Why nothing is known of a field that is wanted of a named register.
+impl From<WalkError> for Refusal {
+    ghost from_gives = { λ e r. r ≡ of_walk e };
+
+    fn from(error: WalkError) -> Refusal {
+        match error {
+            WalkError::Fault(fault) => Refusal::Fault(fault),
+            WalkError::Missing => Refusal::Missing,
+        }
+    }
+}
+
+// Why nothing is known of a field or flag that is wanted of a register: the register is nameless, or lacks the field, or the flag isn't one bit.
 #[derive(Clone, Copy)]
 pub enum FieldError {
     NoField,

@@ -4,15 +4,16 @@
 ghost use Rattle.std.specs.Prelude.{ℕ, ◌≡◌};
 ghost use Rattle.tables.specs.Rows.{device_in, router_from};
 ghost use Rattle.tables.specs.Packed.{upstream_by, device_word, devices_in};
-ghost use Rattle.tables.specs.Found.{upstream_outcome, device_row, device_found};
+ghost use Rattle.tables.specs.Found.{device_row, device_found};
 ghost use Rattle.refusal.specs.declared.Site.{Site};
+ghost use Rattle.refusal.specs.Refusal.{field_at};
 
 use refusal::FieldError;
 use tables::DeviceFacts;
 
 // An upstream adapter by its code.
 fn upstream_by(code: u64) -> Result<Option<u8>, FieldError>
-    ensures { (s : Site) → upstream_outcome s result ≡ upstream_by s code }
+    ensures { (s : Site) → field_at s result ≡ upstream_by s code }
 {
     if code < 1 {
         return Ok(None);

@@ -9,13 +9,12 @@ use native.Mathlib.Omega.{arith}
 use lib.Dec.{eqb}
 use borrow.Author.Tests.{ne_eqb}
 use Rattle.refusal.specs.Outcome.{value}
-use Rattle.refusal.specs.Refusal.{refusal_of}
+use Rattle.refusal.specs.Refusal.{refusal_of, field_at}
 use Rattle.refusal.specs.declared.Site.{Site}
 use Rattle.refusal.specs.declared.Fault.TheVariants.{NoField}
 use Rattle.usb4.specs.declared.AdapterType.{AdapterType}
 use Rattle.usb4.specs.declared.Speed.TheVariants as speed
-use Rattle.state.specs.State.{speed_outcome}
-use Rattle.adapter.specs.Adapter.{AdapterRow, facts_row, is_lane, max_hop_outcome}
+use Rattle.adapter.specs.Adapter.{AdapterRow, facts_row, is_lane}
 use Rattle.adapter.specs.declared.Facts.{Facts}
 use Rattle.tables.specs.Packed.{type_by, speed_by, number_by, adapter_word}
 use Rattle.tables.specs.Found.{AdapterSought, adapter_found}
@@ -36,19 +35,19 @@ word_found t p a w s = record { found = λ v e f g. s f (subst (λ k. facts_row 
 
 -- ---- there is an adapter that says the same as a word
 
-speed_of_lem : (n : ℕ) → (r : Result Speed FieldError) × ((s : Site) → speed_outcome s r ≡ speed_by s n)
-unfolding speed_by speed_outcome
+speed_of_lem : (n : ℕ) → (r : Result Speed FieldError) × ((s : Site) → field_at s r ≡ speed_by s n)
+unfolding speed_by
 speed_of_lem n = go (eqb n 1) (eqb n 2) (eqb n 3) (eqb n 4)
   where
-    go : (a b c d : Bool) → (r : Result Speed FieldError) × ((s : Site) → speed_outcome s r ≡ cond a (value speed.Gen2) (cond b (value speed.Gen3) (cond c (value speed.Gen4) (cond d (refusal_of (NoField s)) (value speed.Unknown)))))
+    go : (a b c d : Bool) → (r : Result Speed FieldError) × ((s : Site) → field_at s r ≡ cond a (value speed.Gen2) (cond b (value speed.Gen3) (cond c (value speed.Gen4) (cond d (refusal_of (NoField s)) (value speed.Unknown)))))
     go true b c d = (Ok speed.Gen2, λ s. refl)
     go false true c d = (Ok speed.Gen3, λ s. refl)
     go false false true d = (Ok speed.Gen4, λ s. refl)
     go false false false true = ((Err field.NoField), λ s. refl)
     go false false false false = (Ok speed.Unknown, λ s. refl)
 
-most_of : (n : ℕ) → (r : Result (Option ℕ) FieldError) × ((s : Site) → max_hop_outcome s r ≡ number_by s n)
-unfolding number_by max_hop_outcome
+most_of : (n : ℕ) → (r : Result (Option ℕ) FieldError) × ((s : Site) → field_at s r ≡ number_by s n)
+unfolding number_by
 most_of zero = ((Ok None), λ s. refl)
 most_of (suc zero) = ((Err field.NoField), λ s. refl)
 most_of (suc (suc n)) = (Ok (Some n), λ s. refl)

@@ -5,7 +5,8 @@ ghost use Rattle.std.specs.Prelude.{◌≡◌};
 ghost use Rattle.refusal.specs.declared.Site.{Site};
 ghost use Rattle.layout.specs.Description.{descriptions_of};
 ghost use Rattle.listing.specs.After.{after};
-ghost use Rattle.state.specs.State.{has_speed, link_speed, speed_outcome};
+ghost use Rattle.state.specs.State.{has_speed, link_speed};
+ghost use Rattle.refusal.specs.Refusal.{field_at};
 
 use named::NamedAt;
 use refusal::FieldError;
@@ -37,7 +38,7 @@ pub fn link_speed(
     kind: AdapterType,
     state: State,
 ) -> Result<Speed, FieldError>
-    ensures { (s : Site) → speed_outcome s result ≡ link_speed (descriptions_of descriptions.now) s kind state (after survey.now from).registers }
+    ensures { (s : Site) → field_at s result ≡ link_speed (descriptions_of descriptions.now) s kind state (after survey.now from).registers }
 {
     let number = usb4::type_number(kind);
     if number != 2 {

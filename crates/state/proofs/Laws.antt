@@ -10,7 +10,7 @@ use lib.Dec.{eqb}
 use lib.ListN.{length}
 use borrow.Author.Tests.{lt-ltb, le-ltb, eq-eqb, ne_eqb}
 use Rattle.refusal.specs.Outcome.{Outcome, refused, value, bind}
-use Rattle.refusal.specs.Refusal.{at, refusal_of}
+use Rattle.refusal.specs.Refusal.{at, refusal_of, fault_outcome, field_at}
 use Rattle.refusal.specs.declared.Site.{Site}
 use Rattle.refusal.specs.declared.Fault.TheVariants.{NoField, GenTOffset}
 use Rattle.util.specs.Text.{bytes_of}
@@ -36,9 +36,9 @@ use Rattle.listing.proofs.Laws.{after_end}
 use Rattle.listing.specs.After.{after, listed, register_at, NextRegister}
 use Rattle.named.proofs.Laws.{wanted_field_lem, wanted_flag_lem}
 use Rattle.named.specs.Named.{Named, adapter_space, named, by_name, sited, wanted_field, wanted_flag, named_at, Within, named_in}
-use Rattle.refusal.specs.Refusal.{field_read}
+use Rattle.refusal.specs.Refusal.{field_read, fault_outcome, field_at}
 use Rattle.named.specs.declared.NamedAt.{NamedAt}
-use Rattle.state.specs.State.{by_offset, both_set, enabled_if, by_flag, by_flags, lane_state, port_set, ports, gen_tState, of_kind, state_of, has_speed, speed_in, link_speed, state_outcome, speed_outcome}
+use Rattle.state.specs.State.{by_offset, both_set, enabled_if, by_flag, by_flags, lane_state, port_set, ports, gen_tState, of_kind, state_of, has_speed, speed_in, link_speed}
 use Rattle.state.specs.Work.{OffsetAt}
 use Rattle.refusal.specs.declared.FieldError.{FieldError}
 use Rattle.refusal.specs.declared.FieldError.TheVariants as field
@@ -69,16 +69,16 @@ module _ (s : Site) where
   abbrev enabled : Outcome Bool → Outcome State
   enabled o = bind o (λ b. value (enabled_if b))
 
-  pub enabled_missing : (r : Result Bool FieldError) → r ≡ (Err field.NoField) → state_outcome (Err (NoField s)) ≡ enabled (sited s (field_read r))
-  unfolding state_outcome refusal_of bind sited
+  pub enabled_missing : (r : Result Bool FieldError) → r ≡ (Err field.NoField) → fault_outcome (Err (NoField s)) ≡ enabled (sited s (field_read r))
+  unfolding refusal_of bind sited
   enabled_missing r k = ap (λ x. enabled (sited s (field_read x))) (sym k)
 
-  pub enabled_clear : (r : Result Bool FieldError) → r ≡ (Ok false) → state_outcome (Ok state.Disabled) ≡ enabled (sited s (field_read r))
-  unfolding state_outcome enabled_if bind sited
+  pub enabled_clear : (r : Result Bool FieldError) → r ≡ (Ok false) → fault_outcome (Ok state.Disabled) ≡ enabled (sited s (field_read r))
+  unfolding enabled_if bind sited
   enabled_clear r k = ap (λ x. enabled (sited s (field_read x))) (sym k)
 
-  pub enabled_set : (r : Result Bool FieldError) → r ≡ (Ok true) → state_outcome (Ok state.Enabled) ≡ enabled (sited s (field_read r))
-  unfolding state_outcome enabled_if bind sited
+  pub enabled_set : (r : Result Bool FieldError) → r ≡ (Ok true) → fault_outcome (Ok state.Enabled) ≡ enabled (sited s (field_read r))
+  unfolding enabled_if bind sited
   enabled_set r k = ap (λ x. enabled (sited s (field_read x))) (sym k)
 
 -- by a register that is found by name, or isn't
@@ -110,8 +110,8 @@ module _ (t v : List ℕ) (f : Option NamedAt) (n : Option Named) (e : named_at 
   unfolding gen_tState
   gen_t_nowhere ds s kind rs k = ap (gen_tState ds s kind rs) (no_name k)
 
-  pub speed_nowhere : (s : Site) → f ≡ None → speed_outcome s (Ok speed.Unknown) ≡ speed_in s n
-  unfolding speed_outcome speed_in
+  pub speed_nowhere : (s : Site) → f ≡ None → field_at s (Ok speed.Unknown) ≡ speed_in s n
+  unfolding speed_in
   speed_nowhere s k = ap (speed_in s) (no_name k)
 
   -- its value is w
@@ -149,17 +149,17 @@ module _ (t v : List ℕ) (f : Option NamedAt) (n : Option Named) (e : named_at 
     its_lack r name h m = ap (λ z. sited s (field_read z)) (sym m) ∙ its_field r name h
 
     module _ (r : Result ℕ FieldError) where
-      pub lane_lacks : field_read r ≡ value_in w (find_field (bytes_of "Adapter State") (described t g).fields) → r ≡ (Err field.NoField) → state_outcome (Err (NoField s)) ≡ lane_state s n
-      unfolding state_outcome refusal_of lane_state bind
+      pub lane_lacks : field_read r ≡ value_in w (find_field (bytes_of "Adapter State") (described t g).fields) → r ≡ (Err field.NoField) → fault_outcome (Err (NoField s)) ≡ lane_state s n
+      unfolding refusal_of lane_state bind
       lane_lacks h m = ap (λ o. bind o (λ x. value (lane_state_of x))) (its_lack r _ h m) ∙ ap (lane_state s) (has_name i g k)
 
-      pub lane_has : field_read r ≡ value_in w (find_field (bytes_of "Adapter State") (described t g).fields) → (x : ℕ) → r ≡ Ok x → (a : State) → a ≡ lane_state_of x → state_outcome (Ok a) ≡ lane_state s n
-      unfolding state_outcome lane_state bind
+      pub lane_has : field_read r ≡ value_in w (find_field (bytes_of "Adapter State") (described t g).fields) → (x : ℕ) → r ≡ Ok x → (a : State) → a ≡ lane_state_of x → fault_outcome (Ok a) ≡ lane_state s n
+      unfolding lane_state bind
       lane_has h x m a q = ap value q ∙ ap (λ o. bind o (λ x. value (lane_state_of x))) (its_value r _ h x m) ∙ ap (lane_state s) (has_name i g k)
 
       pub gen_t_lacks : (ds : List Description) (kind : ℕ) (rs : List Register) → field_read r ≡ value_in w (find_field (bytes_of "Gen T Port Count") (described t g).fields) → r ≡ (Err field.NoField)
-          → state_outcome (Err (NoField s)) ≡ gen_tState ds s kind rs n
-      unfolding state_outcome refusal_of gen_tState bind
+          → fault_outcome (Err (NoField s)) ≡ gen_tState ds s kind rs n
+      unfolding refusal_of gen_tState bind
       gen_t_lacks ds kind rs h m = ap (λ o. bind o (λ c. ports ds s kind rs (register_at v i).offset 0 (c % 65536))) (its_lack r _ h m) ∙ ap (gen_tState ds s kind rs) (has_name i g k)
 
       pub gen_t_has : (ds : List Description) (kind : ℕ) (rs : List Register) → field_read r ≡ value_in w (find_field (bytes_of "Gen T Port Count") (described t g).fields) → (x : ℕ) → r ≡ Ok x
@@ -170,12 +170,12 @@ module _ (t v : List ℕ) (f : Option NamedAt) (n : Option Named) (e : named_at 
           ∙ ap (λ o. bind o (λ c. ports ds s kind rs (register_at v i).offset 0 (c % 65536))) (its_value r _ h x m)
           ∙ ap (gen_tState ds s kind rs) (has_name i g k)
 
-      pub speed_lacks : field_read r ≡ value_in w (find_field (bytes_of "Current Link Speed") (described t g).fields) → r ≡ (Err field.NoField) → speed_outcome s (Err field.NoField) ≡ speed_in s n
-      unfolding speed_outcome refusal_of speed_in bind
+      pub speed_lacks : field_read r ≡ value_in w (find_field (bytes_of "Current Link Speed") (described t g).fields) → r ≡ (Err field.NoField) → field_at s (Err field.NoField) ≡ speed_in s n
+      unfolding refusal_of speed_in bind
       speed_lacks h m = ap (λ o. bind o (λ x. value (speed_of x))) (its_lack r _ h m) ∙ ap (speed_in s) (has_name i g k)
 
-      pub speed_has : field_read r ≡ value_in w (find_field (bytes_of "Current Link Speed") (described t g).fields) → (x : ℕ) → r ≡ Ok x → (a : Speed) → a ≡ speed_of x → speed_outcome s (Ok a) ≡ speed_in s n
-      unfolding speed_outcome speed_in bind
+      pub speed_has : field_read r ≡ value_in w (find_field (bytes_of "Current Link Speed") (described t g).fields) → (x : ℕ) → r ≡ Ok x → (a : Speed) → a ≡ speed_of x → field_at s (Ok a) ≡ speed_in s n
+      unfolding speed_in bind
       speed_has h x m a q = ap value q ∙ ap (λ o. bind o (λ x. value (speed_of x))) (its_value r _ h x m) ∙ ap (speed_in s) (has_name i g k)
 
 -- the words of a register that is found are there
@@ -271,16 +271,16 @@ module _ (ds : List Description) (s : Site) (k : ℕ) (rs : List Register) (cap 
   abbrev one_port : Outcome Bool
   one_port = port_set ds s k rs (by_offset (cap + 3 + 2 * p) rs)
 
-  pub ports_end : count ≤ p → state_outcome (Ok state.Disabled) ≡ left
-  unfolding state_outcome ports
+  pub ports_end : count ≤ p → fault_outcome (Ok state.Disabled) ≡ left
+  unfolding ports
   ports_end l = let e : 0 ≡ count - p = omega arith in ap (ports ds s k rs cap p) e
 
   module _ (l : p < count) where
     more : ports ds s k rs cap p (suc (count - (p + 1))) ≡ left
     more = ap (ports ds s k rs cap p) (sym (one_less p count l))
 
-    pub ports_past : 65535 < cap + 3 + 2 * p → state_outcome (Err (GenTOffset s)) ≡ left
-    unfolding state_outcome ports
+    pub ports_past : 65535 < cap + 3 + 2 * p → fault_outcome (Err (GenTOffset s)) ≡ left
+    unfolding ports
     ports_past h = sym (simp (lt-ltb 65535 (cap + 3 + 2 * p) h)) ∙ more
 
     module _ (h : cap + 3 + 2 * p ≤ 65535) (r : Result Bool FieldError) (e : sited s (field_read r) ≡ one_port) where
@@ -291,12 +291,12 @@ module _ (ds : List Description) (s : Site) (k : ℕ) (rs : List Register) (cap 
       unfolding ports
       by_flag_lem = ap (λ o. by_port o) e ∙ sym (ap (λ b. cond b (refusal_of (GenTOffset s)) (by_port one_port)) (le-ltb 65535 (cap + 3 + 2 * p) h)) ∙ more
 
-      pub ports_missing : r ≡ (Err field.NoField) → state_outcome (Err (NoField s)) ≡ left
-      unfolding state_outcome refusal_of bind sited
+      pub ports_missing : r ≡ (Err field.NoField) → fault_outcome (Err (NoField s)) ≡ left
+      unfolding refusal_of bind sited
       ports_missing m = ap (λ x. by_port (sited s (field_read x))) (sym m) ∙ by_flag_lem
 
-      pub ports_set : r ≡ (Ok true) → state_outcome (Ok state.Enabled) ≡ left
-      unfolding state_outcome bind sited
+      pub ports_set : r ≡ (Ok true) → fault_outcome (Ok state.Enabled) ≡ left
+      unfolding bind sited
       ports_set m = ap (λ x. by_port (sited s (field_read x))) (sym m) ∙ by_flag_lem
 
       pub ports_clear : r ≡ (Ok false) → left ≡ ports ds s k rs cap (p + 1) (count - (p + 1))
@@ -311,8 +311,8 @@ module _ (ds : List Description) (k : AdapterType) (st : State) (rs : List Regis
   abbrev speed_by_lem : Bool → Bool → Outcome Speed
   speed_by_lem lane has = cond (lane && has) (speed_in s (lane_register (type_number k))) (value speed.Unknown)
 
-  pub speed_kind : (number ≡ 2 → ⊥) → speed_outcome s (Ok speed.Unknown) ≡ link_speed ds s k st rs
-  unfolding speed_outcome link_speed of_kind
+  pub speed_kind : (number ≡ 2 → ⊥) → field_at s (Ok speed.Unknown) ≡ link_speed ds s k st rs
+  unfolding link_speed of_kind
   speed_kind n = sym (ap (λ b. speed_by_lem b (has_speed st)) (ap (λ x. eqb x 2) (sym e) ∙ ne_eqb number 2 n))
 
   module _ (lane : number ≡ 2) where
@@ -320,8 +320,7 @@ module _ (ds : List Description) (k : AdapterType) (st : State) (rs : List Regis
     unfolding link_speed of_kind
     by_state b h = ap (λ x. speed_by_lem true x) (sym h) ∙ sym (ap (λ x. speed_by_lem x (has_speed st)) (ap (λ x. eqb x 2) (sym e) ∙ eq-eqb number 2 lane))
 
-    pub speed_state : has_speed st ≡ false → speed_outcome s (Ok speed.Unknown) ≡ link_speed ds s k st rs
-    unfolding speed_outcome
+    pub speed_state : has_speed st ≡ false → field_at s (Ok speed.Unknown) ≡ link_speed ds s k st rs
     speed_state h = by_state false h
 
     pub speed_register : has_speed st ≡ true → speed_in s (lane_register number) ≡ link_speed ds s k st rs

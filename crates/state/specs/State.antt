@@ -1,7 +1,7 @@
 -- Document 01, module 5: an adapter's state and link speed, by its kind and its registers. Assumes nothing.
 use Rattle.std.specs.Prelude.{ℕ, zero, suc, ◌+◌, ◌*◌, ◌%◌, Bool, true, false, cond, ◌&&◌, ◌||◌, List, [], ◌∷◌, ltb, eqb, Option, None, Some, Err, Ok, Result}
 use Rattle.refusal.specs.Outcome.{Outcome, value, bind}
-use Rattle.refusal.specs.Refusal.{refusal_of}
+use Rattle.refusal.specs.Refusal.{refusal_of, fault_outcome, field_at}
 use Rattle.refusal.specs.declared.Site.{Site}
 use Rattle.refusal.specs.declared.Fault.TheVariants.{NoField, GenTOffset}
 use Rattle.util.specs.Text.{bytes_of}
@@ -122,10 +122,3 @@ unfoldable pub is_enabled : AdapterType → State → Bool
 is_enabled k st = eqb (type_number k) (type_number type.HostInterface) || (is_protocol k && eqb (state_number st) (state_number state.Enabled))
 
 -- what `parse_state` and `link_speed` answer
-unfoldable pub state_outcome : Result State Fault → Outcome State
-state_outcome (Ok st) = value st
-state_outcome (Err f) = refusal_of f
-
-unfoldable pub speed_outcome : Site → Result Speed FieldError → Outcome Speed
-speed_outcome s (Ok v) = value v
-speed_outcome s (Err e) = refusal_of (NoField s)

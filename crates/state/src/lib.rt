@@ -12,8 +12,8 @@ ghost use Rattle.layout.specs.Description.{described, descriptions_of};
 ghost use Rattle.metadata.specs.Calls.{flag_in};
 ghost use Rattle.listing.specs.After.{after};
 ghost use Rattle.named.specs.Named.{adapter_space, by_name, sited};
-ghost use Rattle.refusal.specs.Refusal.{field_read};
-ghost use Rattle.state.specs.State.{by_offset, both_set, enabled_if, by_flag, by_flags, lane_state, port_set, ports, gen_tState, state_of, state_outcome};
+ghost use Rattle.refusal.specs.Refusal.{field_read, fault_outcome};
+ghost use Rattle.state.specs.State.{by_offset, both_set, enabled_if, by_flag, by_flags, lane_state, port_set, ports, gen_tState, state_of};
 ghost use Rattle.state.specs.Work.{OffsetAt};
 
 use named::NamedAt;
@@ -40,7 +40,7 @@ fn two_flags(
 
 // The state of an adapter that is enabled by a flag.
 fn enabled_by(flag: Result<bool, FieldError>, site: Site) -> Result<State, Fault>
-    ensures { state_outcome result ≡ bind (sited site (field_read flag)) (λ b. value (enabled_if b)) }
+    ensures { fault_outcome result ≡ bind (sited site (field_read flag)) (λ b. value (enabled_if b)) }
 {
     match flag {
         Err(FieldError::NoField) => Err(Fault::NoField(site)),
@@ -51,7 +51,7 @@ fn enabled_by(flag: Result<bool, FieldError>, site: Site) -> Result<State, Fault
 
 // The state of an adapter that lacks the register that tells it.
 fn untold() -> Result<State, Fault>
-    ensures { state_outcome result ≡ value state.Unknown }
+    ensures { fault_outcome result ≡ value state.Unknown }
 {
     Ok(State::Unknown)
 }
@@ -67,7 +67,7 @@ fn flags_state(
     second: &[u8],
     site: Site,
 ) -> Result<State, Fault>
-    ensures { state_outcome result ≡ by_flags site first.now second.now (by_name (descriptions_of descriptions.now) adapter_space kind name.now (after survey.now from).registers) }
+    ensures { fault_outcome result ≡ by_flags site first.now second.now (by_name (descriptions_of descriptions.now) adapter_space kind name.now (after survey.now from).registers) }
 {
     let Some(NamedAt { register, group }) = named::by_name(
         descriptions,
@@ -91,7 +91,7 @@ fn display_port_state(
     kind: u32,
     site: Site,
 ) -> Result<State, Fault>
-    ensures { state_outcome result ≡ by_flags site (bytes_of "VE") (bytes_of "AE") (by_name (descriptions_of descriptions.now) adapter_space kind (bytes_of "ADP_DP_CS_0") (after survey.now from).registers) }
+    ensures { fault_outcome result ≡ by_flags site (bytes_of "VE") (bytes_of "AE") (by_name (descriptions_of descriptions.now) adapter_space kind (bytes_of "ADP_DP_CS_0") (after survey.now from).registers) }
 {
     flags_state(
         descriptions,
@@ -113,7 +113,7 @@ fn pcie_state(
     kind: u32,
     site: Site,
 ) -> Result<State, Fault>
-    ensures { state_outcome result ≡ by_flag site (bytes_of "PE") (by_name (descriptions_of descriptions.now) adapter_space kind (bytes_of "ADP_PCIE_CS_0") (after survey.now from).registers) }
+    ensures { fault_outcome result ≡ by_flag site (bytes_of "PE") (by_name (descriptions_of descriptions.now) adapter_space kind (bytes_of "ADP_PCIE_CS_0") (after survey.now from).registers) }
 {
     let Some(NamedAt { register, group }) = named::by_name(
         descriptions,
@@ -137,7 +137,7 @@ fn usb3_state(
     kind: u32,
     site: Site,
 ) -> Result<State, Fault>
-    ensures { state_outcome result ≡ by_flags site (bytes_of "PE") (bytes_of "V") (by_name (descriptions_of descriptions.now) adapter_space kind (bytes_of "ADP_USB3_GX_CS_0") (after survey.now from).registers) }
+    ensures { fault_outcome result ≡ by_flags site (bytes_of "PE") (bytes_of "V") (by_name (descriptions_of descriptions.now) adapter_space kind (bytes_of "ADP_USB3_GX_CS_0") (after survey.now from).registers) }
 {
     flags_state(
         descriptions,
@@ -153,7 +153,7 @@ fn usb3_state(
 
 // A lane's state.
 fn lane_state(descriptions: &[u32], survey: &[u32], from: usize, site: Site) -> Result<State, Fault>
-    ensures { state_outcome result ≡ lane_state site (by_name (descriptions_of descriptions.now) adapter_space (type_number type.Lane) (bytes_of "LANE_ADP_CS_1") (after survey.now from).registers) }
+    ensures { fault_outcome result ≡ lane_state site (by_name (descriptions_of descriptions.now) adapter_space (type_number type.Lane) (bytes_of "LANE_ADP_CS_1") (after survey.now from).registers) }
 {
     let Some(NamedAt { register, group }) = named::by_name(
         descriptions,
@@ -231,7 +231,7 @@ fn port_states(
     site: Site,
 ) -> Result<State, Fault>
     requires { (cap < 65536) × (count < 65536) }
-    ensures { state_outcome result ≡ ports (descriptions_of descriptions.now) site kind (after survey.now from).registers cap 0 count }
+    ensures { fault_outcome result ≡ ports (descriptions_of descriptions.now) site kind (after survey.now from).registers cap 0 count }
 {
     let mut port: u32 = 0;
     while port < count {
@@ -262,7 +262,7 @@ fn gen_t_state(
     kind: u32,
     site: Site,
 ) -> Result<State, Fault>
-    ensures { state_outcome result ≡ gen_tState (descriptions_of descriptions.now) site kind (after survey.now from).registers (by_name (descriptions_of descriptions.now) adapter_space kind (bytes_of "ADP_USB3_GT_CS_0") (after survey.now from).registers) }
+    ensures { fault_outcome result ≡ gen_tState (descriptions_of descriptions.now) site kind (after survey.now from).registers (by_name (descriptions_of descriptions.now) adapter_space kind (bytes_of "ADP_USB3_GT_CS_0") (after survey.now from).registers) }
 {
     let Some(NamedAt { register, group }) = named::by_name(
         descriptions,
@@ -290,7 +290,7 @@ pub fn parse_state(
     kind: AdapterType,
     site: Site,
 ) -> Result<State, Fault>
-    ensures { state_outcome result ≡ state_of (descriptions_of descriptions.now) site kind (after survey.now from).registers }
+    ensures { fault_outcome result ≡ state_of (descriptions_of descriptions.now) site kind (after survey.now from).registers }
 {
     match kind {
         AdapterType::Unknown => Ok(State::Unknown),

@@ -13,7 +13,7 @@ use lib.ListN.{length, get_or, take, drop, drop_of_length-le}
 use lib.Seq.{get_or-take, drop-cons}
 use borrow.Author.Tests.{eq-eqb, ne_eqb, eqb-true}
 use Rattle.refusal.specs.Outcome.{value}
-use Rattle.refusal.specs.Refusal.{refusal_of}
+use Rattle.refusal.specs.Refusal.{refusal_of, field_at}
 use Rattle.refusal.specs.declared.Site.{Site}
 use Rattle.refusal.specs.declared.Fault.TheVariants.{NoField}
 use Rattle.usb4.specs.Codes.{device_kind_of}
@@ -26,12 +26,11 @@ use Rattle.usb4.specs.declared.State.{State}
 use Rattle.usb4.specs.declared.State.TheVariants as state
 use Rattle.usb4.specs.declared.Speed.{Speed}
 use Rattle.usb4.specs.declared.Speed.TheVariants as speed
-use Rattle.adapter.specs.Adapter.{AdapterRow, facts_row, max_hop_outcome}
+use Rattle.adapter.specs.Adapter.{AdapterRow, facts_row}
 use Rattle.adapter.specs.declared.Facts.{Facts}
-use Rattle.state.specs.State.{speed_outcome}
 use Rattle.tables.specs.Rows.{EntryRow, entry_in, adapter_in, device_in, is_router, router_from}
 use Rattle.tables.specs.Packed.{entry_word, adapter_word, device_word, entries_in, adapters_in, devices_from, entry_unit, adapter_unit, Sorted, type_by, state_by, speed_by, number_by, upstream_by}
-use Rattle.tables.specs.Found.{Boundary, EntrySought, AdapterSought, entry_found, adapter_found, upstream_outcome, device_row}
+use Rattle.tables.specs.Found.{Boundary, EntrySought, AdapterSought, entry_found, adapter_found, device_row}
 use Rattle.refusal.specs.declared.FieldError.{FieldError}
 use Rattle.adapter.specs.Paths.{entry_out}
 
@@ -267,12 +266,12 @@ speed_round s speed.Gen4 = refl
 
 -- ---- words taken apart
 
-pub facts_made : (w : ℕ) (k : AdapterType) (v : State) (f : Result Speed FieldError) (m : Result (Option ℕ) FieldError) → k ≡ type_by (w / 65536 % 16) → v ≡ state_by (w / 4096 % 16) → ((s : Site) → speed_outcome s f ≡ speed_by s (w / 256 % 16)) → ((s : Site) → max_hop_outcome s m ≡ number_by s (w / 1048576 % 1048576))
+pub facts_made : (w : ℕ) (k : AdapterType) (v : State) (f : Result Speed FieldError) (m : Result (Option ℕ) FieldError) → k ≡ type_by (w / 65536 % 16) → v ≡ state_by (w / 4096 % 16) → ((s : Site) → field_at s f ≡ speed_by s (w / 256 % 16)) → ((s : Site) → field_at s m ≡ number_by s (w / 1048576 % 1048576))
     → facts_row (w / 281474976710656) (record { number = w / 1099511627776 % 256; kind = k; state = v; lane0 = eqb (w / 16 % 16) 1; lane1 = eqb (w % 16) 1; speed = f; max_hop = m }) ≡ adapter_word w
 unfolding facts_row adapter_word
 facts_made w k v f m e g h j = rw (e, g, h, j) refl
 
-pub device_made : (p r m : ℕ) (k : Kind) (u : Result (Option ℕ) FieldError) → k ≡ device_kind_of (m / 281474976710656 % 16) → ((s : Site) → upstream_outcome s u ≡ upstream_by s (m / 4294967296 % 65536))
+pub device_made : (p r m : ℕ) (k : Kind) (u : Result (Option ℕ) FieldError) → k ≡ device_kind_of (m / 281474976710656 % 16) → ((s : Site) → field_at s u ≡ upstream_by s (m / 4294967296 % 65536))
     → device_row p (record { kind = k; usb4 = eqb (m / 4503599627370496 % 16) 1; domain = m % 4294967296; route = r; upstream = u }) ≡ device_word p r m
 unfolding device_row device_word
 device_made p r m k u e g = rw (e, g) refl

@@ -1,7 +1,7 @@
 -- What the searches in tables answer. Assumes nothing.
 use Rattle.std.specs.Prelude.{ℕ, ◌+◌, ◌-◌, ◌≤◌, ◌<◌, ◌≡◌, List, length, get_or, Option, None, Some, Err, Ok, Result}
 use Rattle.refusal.specs.Outcome.{Outcome, value}
-use Rattle.refusal.specs.Refusal.{refusal_of}
+use Rattle.refusal.specs.Refusal.{refusal_of, field_at}
 use Rattle.refusal.specs.declared.Site.{Site}
 use Rattle.refusal.specs.declared.Fault.TheVariants.{NoField}
 use Rattle.adapter.specs.Adapter.{AdapterRow, adapter_site, facts_row}
@@ -41,13 +41,8 @@ pub record AdapterSought (t : List ℕ) (p a : ℕ) (r : Option Facts) : Type 0 
   pub past : 65535 < p → r ≡ None
   pub held : (x : AdapterRow) → adapter_found p r ≡ Some x → (k : ℕ) × (k < length t) × (adapter_word (get_or t k 0) ≡ x) × (x.number ≡ a)
 
-unfoldable pub upstream_outcome : Site → Result (Option ℕ) FieldError → Outcome (Option ℕ)
-upstream_outcome s (Ok (Some a)) = value (Some a)
-upstream_outcome s (Ok None) = value None
-upstream_outcome s (Err e) = refusal_of (NoField s)
-
 unfoldable pub device_row : ℕ → DeviceFacts → DeviceRow
-device_row p d = record { kind = d.kind; usb4 = d.usb4; domain = d.domain; route = d.route; upstream = upstream_outcome (adapter_site p 0) d.upstream }
+device_row p d = record { kind = d.kind; usb4 = d.usb4; domain = d.domain; route = d.route; upstream = field_at (adapter_site p 0) d.upstream }
 
 unfoldable pub device_found : ℕ → Option DeviceFacts → Option DeviceRow
 device_found p (Some d) = Some (device_row p d)

@@ -1,3 +1,4 @@
 pub mod Rows
 pub mod Packed
 pub mod Found
+pub mod Tables

@@ -1,9 +1,26 @@
-// What is found in the tables that a survey is loaded to; `search` and `routers` find it.
+// The tables that a survey is loaded to, and what is found in them; `search` and `routers` find it.
 #![tactic(auto)]
 
 use adapter::Facts;
 use refusal::FieldError;
 use usb4::Kind;
+
+// Entries and adapters a word each, and devices a word in each of two tables. specs/Packed.antt says what a word holds.
+#[derive(Clone, Copy)]
+pub struct Tables<'a> {
+    pub entries: &'a [u64],
+    pub adapters: &'a [u64],
+    pub routes: &'a [u64],
+    pub marks: &'a [u64],
+}
+
+// Where a walk stands: at an adapter of the device at a place, with a HopID.
+#[derive(Clone, Copy)]
+pub struct Stand {
+    pub place: usize,
+    pub adapter: u8,
+    pub hop_id: u16,
+}
 
 // What is known of a device.
 #[derive(Clone, Copy)]

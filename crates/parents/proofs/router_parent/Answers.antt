@@ -1,7 +1,7 @@
 use Rattle.std.specs.Prelude.{None, Ok, Err}
 use Rattle.std.proofs.lemmas.Result.{err_from_is_err_and}
 use mathlib.Core.Path.{ap, sym, ◌∙◌}
-use Rattle.tables.specs.Found.{device_row, adapter_found, upstream_outcome}
+use Rattle.tables.specs.Found.{device_row, adapter_found}
 use Rattle.refusal.specs.Refusal.{refusal_of, outcome}
 use Rattle.refusal.specs.Outcome.{value, bind}
 use Rattle.adapter.specs.Adapter.{adapter_site}
@@ -12,11 +12,11 @@ use Rattle.refusal.proofs.Laws.{refused_bind, no_field}
 use Rattle.parents.proofs.router_parent.Goals as goal
 
 pub returns-in-Ok-None : goal.returns-in-Ok-None
-unfolding upstream_outcome bind upstream_in parent_by
+unfolding bind upstream_in parent_by
 returns-in-Ok-None c = record { is = λ k l es. by_upstream _ _ _ _ (c.in-Ok-None.is ∙ ap Ok (rw c.in-Ok-None.is at c.in-Ok-None.field-0-is)) }
 
 pub returns-in-Err-NoField : goal.returns-in-Err-NoField
-unfolding upstream_outcome refusal_of bind adapter_site
+unfolding refusal_of bind adapter_site
 returns-in-Err-NoField c = record { is = λ k l es. by_upstream _ _ _ _ (c.in-Err-NoField.is ∙ ap Err (no_field _)) }
 
 pub returns-in_default : goal.returns-in_default

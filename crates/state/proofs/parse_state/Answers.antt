@@ -1,14 +1,14 @@
-use Rattle.state.specs.State.{state_of, of_kind, state_outcome}
+use Rattle.state.specs.State.{state_of, of_kind}
 use mathlib.Core.Path.{refl}
 use Rattle.state.proofs.Laws as laws
 use Rattle.state.proofs.parse_state.Goals as goal
 
 pub returns-in-Unknown : goal.returns-in-Unknown
-unfolding state_of state_outcome
+unfolding state_of
 returns-in-Unknown c = laws.state_is _ _ _ _ _ c.in-Unknown.is _ refl
 
 pub returns-in-Inactive : goal.returns-in-Inactive
-unfolding state_of state_outcome
+unfolding state_of
 returns-in-Inactive c = laws.state_is _ _ _ _ _ c.in-Inactive.is _ refl
 
 pub returns-in-Lane : goal.returns-in-Lane
@@ -16,7 +16,7 @@ unfolding state_of of_kind
 returns-in-Lane c = laws.state_is _ _ _ _ _ c.in-Lane.is _ c.lane_state.ensures
 
 pub returns-in-HostInterface : goal.returns-in-HostInterface
-unfolding state_of state_outcome
+unfolding state_of
 returns-in-HostInterface c = laws.state_is _ _ _ _ _ c.in-HostInterface.is _ refl
 
 pub returns-in-DisplayPortIn : goal.returns-in-DisplayPortIn
