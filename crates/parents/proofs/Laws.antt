@@ -5,7 +5,10 @@ use Rattle.std.specs.Prelude.{Option, None, Some, Ok, Result}
 use mathlib.Core.List.{List}
 use native.Mathlib.Omega.{arith}
 use lib.ListN.{take, length-take}
-use borrow.Author.Tests.{eq-eqb, ne_eqb}
+use mathlib.Core.Bool.{cond}
+use lib.Dec.{eqb}
+use Rattle.usb4.specs.declared.Kind.{Kind}
+use Rattle.usb4.specs.declared.Kind.TheVariants as kind
 use Rattle.refusal.specs.Outcome.{Outcome, value, bind}
 use Rattle.refusal.specs.declared.Fault.TheVariants.{NoParentRoute}
 use Rattle.usb4.specs.Numbers.{device_kind_number}
@@ -50,23 +53,27 @@ module _ (x : Rows) (p : ℕ) (d : DeviceRow) where
   unfolding xdomain_parent
   xdomain_by f e = rw e refl
 
-  pub of_router : (n : ℕ) → n ≡ device_kind_number d.kind → n ≡ 1 → router_parent x p d ≡ parent_of x p d
+  pub of_router : d.kind ≡ kind.Router → router_parent x p d ≡ parent_of x p d
   unfolding parent_of is_router
-  of_router n e f = rw (eq-eqb _ _ (sym e ∙ f)) refl
+  of_router e = rw e refl
 
-  pub of_xdomain : (n : ℕ) → n ≡ device_kind_number d.kind → n ≡ 2 → xdomain_parent x p d ≡ parent_of x p d
+  pub of_xdomain : d.kind ≡ kind.Xdomain → xdomain_parent x p d ≡ parent_of x p d
   unfolding parent_of is_router is_xdomain
-  of_xdomain n e f = rw (sym e ∙ f) refl
+  of_xdomain e = rw e refl
 
-  pub of_other : (n : ℕ) → n ≡ device_kind_number d.kind → (n ≡ 1 → ⊥) → (n ≡ 2 → ⊥) → value None ≡ parent_of x p d
+  pub of_other : (d.kind ≡ kind.Router → ⊥) → (d.kind ≡ kind.Xdomain → ⊥) → value None ≡ parent_of x p d
   unfolding parent_of is_router is_xdomain
-  of_other n e f g = rw (ne_eqb _ 1 (λ h. f (e ∙ h)), ne_eqb _ 2 (λ h. g (e ∙ h))) refl
+  of_other m n = go d.kind refl
+    where
+      parent_by_kind : Kind → Outcome (Option ℕ)
+      parent_by_kind k = cond (eqb (device_kind_number k) 1) (router_parent x p d) (cond (eqb (device_kind_number k) 2) (xdomain_parent x p d) (value None))
+
+      go : (k : Kind) → d.kind ≡ k → value None ≡ parent_by_kind k
+      go kind.Domain e = refl
+      go kind.Router e = absurd (m e)
+      go kind.Xdomain e = absurd (n e)
+      go kind.Retimer e = refl
+      go kind.Service e = refl
+      go kind.Unknown e = refl
 
 -- the parent of a device that was sought in the tables that loading answered: they are in order, and its place fits a key
-pub parent_asked : (l : Loaded) (t s : List ℕ) (e a d p : ℕ) (x : DeviceRow) (r : Result (Option ℕ) Refusal)
-    → loaded_rows l ≡ loaded t s → l.answer ≡ counted e a d → UsableBy l l.answer → Some x ≡ device_in (devices_in (take d l.routes) (take d l.marks)) p
-    → ParentIs (take a l.adapters) (take d l.routes) (take d l.marks) p (λ y. parent_of y p x) r → outcome r ≡ parent_answer t s p
-unfolding parent_answer present bind rows_of
-parent_asked l t s e a d p x r same g v f h = let u = usable l e a d g v in
-    h.is (record { adapters = u.adapter_order; devices = omega (arith, length-take d l.routes, u.devices) }) (place_fits l e a d p x u f) (entries_in (take e l.entries))
-    ∙ asked l t s e a d p (λ y z. parent_of y p z) (Some x) same g f
