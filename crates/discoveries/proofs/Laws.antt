@@ -10,13 +10,13 @@ use Rattle.load.specs.Loading.{loaded}
 use Rattle.refusal.specs.Refusal.{refused_by}
 use Rattle.refusal.specs.declared.Refusal.{Refusal}
 use Rattle.refusal.proofs.Laws.{refused_bind}
-use Rattle.walk.specs.Tables.{rows_of, Tabled}
-use Rattle.path.specs.Put.{Sized}
 use Rattle.walks.proofs.Laws.{nothing, refused_value}
 use Rattle.tunnel.specs.Tunnels.{Tunnel}
 use Rattle.discovery.specs.Answers.{discover_at, in_room, output_by}
 use Rattle.discovery.specs.Tables.{Discovered}
 use Rattle.discoveries.specs.Calls.{discover_answer, DiscoverDone}
+use Rattle.tables.specs.declared.Tables.{Tables}
+use Rattle.tables.specs.Tables.{Sized, Tabled, rows_of}
 
 -- nothing is written of what is refused
 kept_by : (old : List ℕ) (o : Outcome (Option (List Tunnel))) → bind o nothing ≡ o → old ≡ output_by o old
@@ -34,9 +34,9 @@ module _ (t v : List ℕ) (p a : ℕ) (out : List ℕ) where
   }
 
   -- the survey is loaded
-  pub done : (en ad ro ma : List ℕ) → loaded t v ≡ value (rows_of en ad ro ma) → Sized en ro → Tabled en ad ro → (r : Result (Option ℕ) Refusal) (out' : List ℕ) → Discovered en ad ro ma p a out r out' → DiscoverDone t v p a out r out'
+  pub done : (tables : Tables) → loaded t v ≡ value (rows_of tables) → Sized tables → Tabled tables → (r : Result (Option ℕ) Refusal) (out' : List ℕ) → Discovered tables p a out r out' → DiscoverDone t v p a out r out'
   unfolding discover_answer bind
-  done en ad ro ma l z k r out' w = record {
+  done tables l z k r out' w = record {
     answers = w.answers z k ∙ sym (ap (λ (o : Outcome Rows). bind (bind o (λ x. discover_at x p a)) (in_room (length out))) l);
     writes = w.writes z k ∙ sym (ap (λ (o : Outcome Rows). output_by (bind o (λ x. discover_at x p a)) out) l);
     kept = w.kept;

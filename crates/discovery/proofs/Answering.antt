@@ -31,9 +31,6 @@ use Rattle.load.specs.Answers.{present, asked_device, asked_adapter}
 use Rattle.refusal.specs.Refusal.{refused_by, outcome, field_at}
 use Rattle.refusal.specs.declared.Refusal.{Refusal}
 use Rattle.refusal.specs.declared.Refusal.TheVariants as refusal
-use Rattle.fabric.specs.Tables.{rows_with}
-use Rattle.walk.specs.Tables.{rows_of, Tabled}
-use Rattle.path.specs.Put.{Sized}
 use Rattle.tunnel.specs.Tunnels.{Tunnel, down_and_up, display_port, rings, or_none, dma, alone, of_kind, discover}
 use Rattle.tunnel.specs.Words.{tunnels_words}
 use Rattle.tunnel.specs.Plans.{plan_if, planned_as, planned_outcome, words_by, paths_by, Plans}
@@ -48,6 +45,8 @@ use Rattle.discovery.proofs.Past.{rings_capped}
 use Rattle.discovery.proofs.Rings.{plan_words, plan_refused}
 use Rattle.refusal.specs.declared.FieldError.{FieldError}
 use Rattle.refusal.specs.declared.FieldError.TheVariants as field
+use Rattle.tables.specs.declared.Tables.{Tables}
+use Rattle.tables.specs.Tables.{Sized, Tabled, rows_of}
 
 -- ---- by what is discovered
 
@@ -95,20 +94,20 @@ free_words out S w l n = record {
 }
 
 -- what is discovered, by another definition
-answered_as : (en ad ro ma : List ℕ) (p : ℕ) (f g : Rows → Outcome (Option (List Tunnel))) (out : List ℕ) (r : Result (Option ℕ) Refusal) (out' : List ℕ) → (Sized en ro → f (rows_of en ad ro ma) ≡ g (rows_of en ad ro ma)) → Answered en ad ro ma p g out r out' → Answered en ad ro ma p f out r out'
-answered_as en ad ro ma p f g out r out' e w = record { follows = λ z t l. subst (λ o. Follows o out r out') (sym (e z)) (w.follows z t l); free = w.free }
+answered_as : (tables : Tables) (p : ℕ) (f g : Rows → Outcome (Option (List Tunnel))) (out : List ℕ) (r : Result (Option ℕ) Refusal) (out' : List ℕ) → (Sized tables → f (rows_of tables) ≡ g (rows_of tables)) → Answered tables p g out r out' → Answered tables p f out r out'
+answered_as tables p f g out r out' e w = record { follows = λ z t l. subst (λ o. Follows o out r out') (sym (e z)) (w.follows z t l); free = w.free }
 
 -- ---- one tunnel
 
-pub one_refused : (en ad ro ma : List ℕ) (out : List ℕ) (r : Refusal) → OneAnswered en ad ro ma (Err r) out (Err r) out
+pub one_refused : (tables : Tables) (out : List ℕ) (r : Refusal) → OneAnswered tables (Err r) out (Err r) out
 unfolding is_list bind
-one_refused en ad ro ma out r = record {
+one_refused tables out r = record {
   follows = λ z t o f w. let y = plan_refused r o f in follows_refused (bind o alone) out r y.0 y.1 (ap (λ q. bind q alone) y.2) y.3;
   free = free_kept out (Err r) refl;
 }
 
-module _ (en ad ro ma : List ℕ) (plan : Option Planned) (out : List ℕ) where
-  pub one_absent : plan ≡ None → OneAnswered en ad ro ma (Ok plan) out (Ok None) out
+module _ (tables : Tables) (plan : Option Planned) (out : List ℕ) where
+  pub one_absent : plan ≡ None → OneAnswered tables (Ok plan) out (Ok None) out
   unfolding is_list planned_outcome bind plan_if alone
   one_absent e = record { follows = λ z t o f w. follows_none (bind o alone) out (go o (sym (ap (λ q. planned_outcome (Ok q)) e) ∙ f)); free = free_kept out (Ok None) refl }
     where
@@ -136,20 +135,20 @@ module _ (en ad ro ma : List ℕ) (plan : Option Planned) (out : List ℕ) where
     unfolding tally_of
     tunnel_words_lem = ap tally_of e
 
-    pub one_short : length out < w → OneAnswered en ad ro ma (Ok plan) out (Err (refusal.Short w)) out
+    pub one_short : length out < w → OneAnswered tables (Ok plan) out (Err (refusal.Short w)) out
     unfolding is_list
     one_short l = record {
       follows = λ z t o f q. let y = one_planned w tunnel_words_lem tunnel_planned o f in follows_short (bind o alone) out (y.0 ∷ []) w y.2 y.3 l;
       free = free_kept out (Err (refusal.Short w)) refl;
     }
 
-    pub one_put : (S : List ℕ) (r : ℕ) → w ≤ length out → length S ≡ length (take w out) → PlanPut en ad ro ma (Ok (Some (planned_as k c w n a b d))) 0 (take w out) r S → OneAnswered en ad ro ma (Ok plan) out (Ok (Some w)) (S ++ drop w out)
+    pub one_put : (S : List ℕ) (r : ℕ) → w ≤ length out → length S ≡ length (take w out) → PlanPut tables (Ok (Some (planned_as k c w n a b d))) 0 (take w out) r S → OneAnswered tables (Ok plan) out (Ok (Some w)) (S ++ drop w out)
     one_put S r l m p = record {
       follows = λ z t o f q. let y = one_planned w tunnel_words_lem tunnel_planned o f in follows_words (bind o alone) out (y.0 ∷ []) w y.2 y.3 l S (whole z t y.0 y.3 y.4 (q (Some y.0) y.1));
       free = free_words out S w l m;
     }
       where
-        whole : Sized en ro → Tabled en ad ro → (t : Tunnel) → w ≡ length (tunnels_words (t ∷ [])) → planned_outcome (Ok plan) ≡ value (plan_if (Some t)) → Walks (rows_of en ad ro ma) (Some t) → S ≡ tunnels_words (t ∷ [])
+        whole : Sized tables → Tabled tables → (t : Tunnel) → w ≡ length (tunnels_words (t ∷ [])) → planned_outcome (Ok plan) ≡ value (plan_if (Some t)) → Walks (rows_of tables) (Some t) → S ≡ tunnels_words (t ∷ [])
         whole z g t j f q = all (p.words z g (Some t) (sym (ap (λ q. planned_outcome (Ok q)) e) ∙ f) q (omega (arith, j, length-take-le w out l)))
           where
             all : Wrote 0 (tunnels_words (t ∷ [])) (take w out) r S → S ≡ tunnels_words (t ∷ [])
@@ -167,60 +166,60 @@ unfolding bind
 counted_refused (refused k vs) r e = (k, vs, refl, λ A. sym (refused_bind r (λ y. refused 0 [])) ∙ ap (λ w. bind w (λ y. refused 0 [])) e)
 counted_refused (value ts) r e = absurd (let w = refused_as_lem (value (length (tunnels_words ts))) r e in let v = w.2 in let z : ◌≡◌ {A = ℕ} 0 1 = cc in omega arith)
 
-module _ (en ad ro ma : List ℕ) (p a : ℕ) (out : List ℕ) where
+module _ (tables : Tables) (p a : ℕ) (out : List ℕ) where
   abbrev Rung : Result (Option ℕ) FieldError → Result (Option ℕ) Refusal → List ℕ → Type 0
-  Rung m r out' = Answered en ad ro ma p (λ x. dma_by x p a (field_at (adapter_site p a) m)) out r out'
+  Rung m r out' = Answered tables p (λ x. dma_by x p a (field_at (adapter_site p a) m)) out r out'
 
   pub dma_absent : (m : Result (Option ℕ) FieldError) → m ≡ (Ok None) → Rung m (Ok None) out
   unfolding is_list dma_by bind or_none
   dma_absent m e = record {
-    follows = λ z t l. follows_none (dma_by (rows_of en ad ro ma) p a (field_at (adapter_site p a) m)) out (ap (λ q. dma_by (rows_of en ad ro ma) p a (field_at (adapter_site p a) q)) e);
+    follows = λ z t l. follows_none (dma_by (rows_of tables) p a (field_at (adapter_site p a) m)) out (ap (λ q. dma_by (rows_of tables) p a (field_at (adapter_site p a) q)) e);
     free = free_kept out (Ok None) refl;
   }
 
   pub dma_unread : (m : Result (Option ℕ) FieldError) → m ≡ (Err field.NoField) → Rung m (Err (refusal.Fault (NoField (adapter_site p a)))) out
   unfolding is_list dma_by bind refusal_of
   dma_unread m e = record {
-    follows = λ z t l. follows_refused (dma_by (rows_of en ad ro ma) p a (field_at (adapter_site p a) m)) out (refusal.Fault (NoField (adapter_site p a))) 6 (site-at (adapter_site p a)) (ap (λ q. dma_by (rows_of en ad ro ma) p a (field_at (adapter_site p a) q)) e) (λ A. refl);
+    follows = λ z t l. follows_refused (dma_by (rows_of tables) p a (field_at (adapter_site p a) m)) out (refusal.Fault (NoField (adapter_site p a))) 6 (site-at (adapter_site p a)) (ap (λ q. dma_by (rows_of tables) p a (field_at (adapter_site p a) q)) e) (λ A. refl);
     free = free_kept out _ refl;
   }
 
   -- those past 65,535 have no tunnel
-  pub dma_rings : (m : Result (Option ℕ) FieldError) (hi end : ℕ) → m ≡ Ok (Some hi) → end ≡ rings_end hi → (r : Result (Option ℕ) Refusal) (out' : List ℕ) → Answered en ad ro ma p (λ x. ring_list x p a (end - 1)) out r out' → Rung m r out'
+  pub dma_rings : (m : Result (Option ℕ) FieldError) (hi end : ℕ) → m ≡ Ok (Some hi) → end ≡ rings_end hi → (r : Result (Option ℕ) Refusal) (out' : List ℕ) → Answered tables p (λ x. ring_list x p a (end - 1)) out r out' → Rung m r out'
   unfolding dma_by bind or_none
-  dma_rings m hi end e is r out' w = answered_as en ad ro ma p _ _ out r out'
+  dma_rings m hi end e is r out' w = answered_as tables p _ _ out r out'
       (λ z.
-      ap (λ y. dma_by (rows_of en ad ro ma) p a (field_at (adapter_site p a) y)) e
-      ∙ ap (λ y. bind y (λ ts. value (Some ts))) (rings_capped en ad ro ma p a hi z ∙ ap (λ y. rings (rows_of en ad ro ma) p a 1 (y - 1)) (sym is)))
+      ap (λ y. dma_by (rows_of tables) p a (field_at (adapter_site p a) y)) e
+      ∙ ap (λ y. bind y (λ ts. value (Some ts))) (rings_capped tables p a hi z ∙ ap (λ y. rings (rows_of tables) p a 1 (y - 1)) (sym is)))
       w
 
-module _ (en ad ro ma : List ℕ) (p a : ℕ) (out : List ℕ) (k : ℕ) where
+module _ (tables : Tables) (p a : ℕ) (out : List ℕ) (k : ℕ) where
   abbrev Listed : Result (Option ℕ) Refusal → List ℕ → Type 0
-  Listed r out' = Answered en ad ro ma p (λ x. ring_list x p a k) out r out'
+  Listed r out' = Answered tables p (λ x. ring_list x p a k) out r out'
 
-  module _ (c : Result ℕ Refusal) (f : Tallies en ad ro ma p a k c) where
+  module _ (c : Result ℕ Refusal) (f : Tallies tables p a k c) where
     pub list_refused : (r : Refusal) → c ≡ Err r → Listed (Err r) out
     unfolding is_list bind
     list_refused r d = record {
-      follows = λ z t l. let y = counted_refused (rings (rows_of en ad ro ma) p a 1 k) r (sym (ap outcome d) ∙ f.counts z t l) in follows_refused (ring_list (rows_of en ad ro ma) p a k) out r y.0 y.1 (ap (λ o. bind o (λ ts. value (Some ts))) y.2) y.3;
+      follows = λ z t l. let y = counted_refused (rings (rows_of tables) p a 1 k) r (sym (ap outcome d) ∙ f.counts z t l) in follows_refused (ring_list (rows_of tables) p a k) out r y.0 y.1 (ap (λ o. bind o (λ ts. value (Some ts))) y.2) y.3;
       free = free_kept out (Err r) refl;
     }
 
     module _ (w : ℕ) (d : c ≡ Ok w) where
-      all_rings : Sized en ro → Tabled en ad ro → p < 65536 → (ts : List Tunnel) × (rings (rows_of en ad ro ma) p a 1 k ≡ value ts) × (w ≡ length (tunnels_words ts)) × (ring_list (rows_of en ad ro ma) p a k ≡ value (Some ts))
+      all_rings : Sized tables → Tabled tables → p < 65536 → (ts : List Tunnel) × (rings (rows_of tables) p a 1 k ≡ value ts) × (w ≡ length (tunnels_words ts)) × (ring_list (rows_of tables) p a k ≡ value (Some ts))
       unfolding bind
-      all_rings z t l = let y = counted_words (rings (rows_of en ad ro ma) p a 1 k) w (sym (ap outcome d) ∙ f.counts z t l) in (y.0, y.1, y.2, ap (λ o. bind o (λ ts. value (Some ts))) y.1)
+      all_rings z t l = let y = counted_words (rings (rows_of tables) p a 1 k) w (sym (ap outcome d) ∙ f.counts z t l) in (y.0, y.1, y.2, ap (λ o. bind o (λ ts. value (Some ts))) y.1)
 
       pub list_short : length out < w → Listed (Err (refusal.Short w)) out
       unfolding is_list
       list_short n = record {
-        follows = λ z t l. let y = all_rings z t l in follows_short (ring_list (rows_of en ad ro ma) p a k) out y.0 w y.3 y.2 n;
+        follows = λ z t l. let y = all_rings z t l in follows_short (ring_list (rows_of tables) p a k) out y.0 w y.3 y.2 n;
         free = free_kept out (Err (refusal.Short w)) refl;
       }
 
-      pub list_put : w ≤ length out → (S : List ℕ) → length S ≡ length (take w out) → RingsPut en ad ro ma p a k (take w out) S → Listed (Ok (Some w)) (S ++ drop w out)
+      pub list_put : w ≤ length out → (S : List ℕ) → length S ≡ length (take w out) → RingsPut tables p a k (take w out) S → Listed (Ok (Some w)) (S ++ drop w out)
       list_put n S e v = record {
-        follows = λ z t l. let y = all_rings z t l in follows_words (ring_list (rows_of en ad ro ma) p a k) out y.0 w y.3 y.2 n S (v.words z t l y.0 y.1 (length-take-le w out n ∙ y.2));
+        follows = λ z t l. let y = all_rings z t l in follows_words (ring_list (rows_of tables) p a k) out y.0 w y.3 y.2 n S (v.words z t l y.0 y.1 (length-take-le w out n ∙ y.2));
         free = free_words out S w n e;
       }
 
@@ -265,19 +264,19 @@ tunnel_walks x p a n t e = go (eqb n 4) (eqb n 6) (eqb n 8) t e
     go false false false (Some t) e = absurd (let z : ◌≡◌ {A = ℕ} 0 1 = cc in omega arith)
 
 -- a plan by the number of a kind
-module _ (en ad ro ma : List ℕ) (p a n : ℕ) where
-  plans_as : (f : Rows → Outcome (Option Tunnel)) (r : Result (Option Planned) Refusal) → ((x : Rows) → tunnel_by x p a n ≡ f x) → Plans en ad ro ma p f r → Plans en ad ro ma p (λ x. tunnel_by x p a n) r
-  plans_as f r e g = record { answers = λ z t l. g.answers z t l ∙ ap (λ o. bind o (λ t. value (plan_if t))) (sym (e (rows_of en ad ro ma))); few = g.few; three = g.three }
+module _ (tables : Tables) (p a n : ℕ) where
+  plans_as : (f : Rows → Outcome (Option Tunnel)) (r : Result (Option Planned) Refusal) → ((x : Rows) → tunnel_by x p a n ≡ f x) → Plans tables p f r → Plans tables p (λ x. tunnel_by x p a n) r
+  plans_as f r e g = record { answers = λ z t l. g.answers z t l ∙ ap (λ o. bind o (λ t. value (plan_if t))) (sym (e (rows_of tables))); few = g.few; three = g.three }
 
-  pub plan_display_port : n ≡ 4 → (r : Result (Option Planned) Refusal) → Plans en ad ro ma p (λ x. display_port x p a) r → Plans en ad ro ma p (λ x. tunnel_by x p a n) r
+  pub plan_display_port : n ≡ 4 → (r : Result (Option Planned) Refusal) → Plans tables p (λ x. display_port x p a) r → Plans tables p (λ x. tunnel_by x p a n) r
   unfolding tunnel_by
   plan_display_port e r g = plans_as (λ x. display_port x p a) r (λ x. ap (tunnel_by x p a) e) g
 
-  pub plan_pcie : n ≡ 6 → (r : Result (Option Planned) Refusal) → Plans en ad ro ma p (λ x. down_and_up x tunnel_type.Pcie 5 6 p a) r → Plans en ad ro ma p (λ x. tunnel_by x p a n) r
+  pub plan_pcie : n ≡ 6 → (r : Result (Option Planned) Refusal) → Plans tables p (λ x. down_and_up x tunnel_type.Pcie 5 6 p a) r → Plans tables p (λ x. tunnel_by x p a n) r
   unfolding tunnel_by
   plan_pcie e r g = plans_as (λ x. down_and_up x tunnel_type.Pcie 5 6 p a) r (λ x. ap (tunnel_by x p a) e) g
 
-  pub plan_usb3 : n ≡ 8 → (r : Result (Option Planned) Refusal) → Plans en ad ro ma p (λ x. down_and_up x tunnel_type.Usb3 0 1 p a) r → Plans en ad ro ma p (λ x. tunnel_by x p a n) r
+  pub plan_usb3 : n ≡ 8 → (r : Result (Option Planned) Refusal) → Plans tables p (λ x. down_and_up x tunnel_type.Usb3 0 1 p a) r → Plans tables p (λ x. tunnel_by x p a n) r
   unfolding tunnel_by
   plan_usb3 e r g = plans_as (λ x. down_and_up x tunnel_type.Usb3 0 1 p a) r (λ x. ap (tunnel_by x p a) e) g
 
@@ -287,13 +286,13 @@ module _ (en ad ro ma : List ℕ) (p a n : ℕ) where
       ∙ ap (λ b. cond b (down_and_up x tunnel_type.Pcie 5 6 p a) (cond (eqb n 8) (down_and_up x tunnel_type.Usb3 0 1 p a) (value None))) (ne_eqb n 6 j)
       ∙ ap (λ b. cond b (down_and_up x tunnel_type.Usb3 0 1 p a) (value None)) (ne_eqb n 8 k)
 
-  pub plan_other : (n ≡ 4 → ⊥) → (n ≡ 6 → ⊥) → (n ≡ 8 → ⊥) → Plans en ad ro ma p (λ x. tunnel_by x p a n) (Ok None)
+  pub plan_other : (n ≡ 4 → ⊥) → (n ≡ 6 → ⊥) → (n ≡ 8 → ⊥) → Plans tables p (λ x. tunnel_by x p a n) (Ok None)
   unfolding planned_outcome words_by paths_by plan_if bind
-  plan_other i j k = record { answers = λ z t l. sym (ap (λ o. bind o (λ t. value (plan_if t))) (none_by i j k (rows_of en ad ro ma))); few = omega arith; three = omega arith }
+  plan_other i j k = record { answers = λ z t l. sym (ap (λ o. bind o (λ t. value (plan_if t))) (none_by i j k (rows_of tables))); few = omega arith; three = omega arith }
 
-module _ (en ad ro ma : List ℕ) (p : ℕ) (f : Facts) (out : List ℕ) (r : Result (Option ℕ) Refusal) (out' : List ℕ) where
+module _ (tables : Tables) (p : ℕ) (f : Facts) (out : List ℕ) (r : Result (Option ℕ) Refusal) (out' : List ℕ) where
   abbrev Told : Type 0
-  Told = Answered en ad ro ma p (λ x. discover x p (facts_row p f)) out r out'
+  Told = Answered tables p (λ x. discover x p (facts_row p f)) out r out'
 
   by_kind : Rows → AdapterType → Outcome (Option (List Tunnel))
   by_kind x k = cond (is_enabled k f.state) (of_kind x p (facts_row p f) k) (value None)
@@ -313,77 +312,77 @@ module _ (en ad ro ma : List ℕ) (p : ℕ) (f : Facts) (out : List ℕ) (r : Re
       go (value None) = refl
       go (value (Some hi)) = ap (λ n. bind (rings x p f.number 1 n) (λ ts. value (Some ts))) (let z : hi + 1 - 1 ≡ hi = omega arith in z)
 
-  pub told_host : (n : ℕ) → n ≡ type_number f.kind → n ≡ 3 → Answered en ad ro ma p (λ x. dma_by x p f.number (field_at (adapter_site p f.number) f.max_hop)) out r out' → Told
+  pub told_host : (n : ℕ) → n ≡ type_number f.kind → n ≡ 3 → Answered tables p (λ x. dma_by x p f.number (field_at (adapter_site p f.number) f.max_hop)) out r out' → Told
   unfolding type_by
-  told_host n e k a = answered_as en ad ro ma p _ _ out r out' (λ z. host_rings (rows_of en ad ro ma) (type_is f.kind n e ∙ ap type_by k)) a
+  told_host n e k a = answered_as tables p _ _ out r out' (λ z. host_rings (rows_of tables) (type_is f.kind n e ∙ ap type_by k)) a
 
   -- one plan's tunnel
-  told_one : (o : Rows → Outcome (Option Tunnel)) (plan : Result (Option Planned) Refusal) → ((x : Rows) → discover x p (facts_row p f) ≡ bind (o x) alone) → ((x : Rows) (t : Option Tunnel) → o x ≡ value t → Walks x t) → Plans en ad ro ma p o plan → OneAnswered en ad ro ma plan out r out' → Told
+  told_one : (o : Rows → Outcome (Option Tunnel)) (plan : Result (Option Planned) Refusal) → ((x : Rows) → discover x p (facts_row p f) ≡ bind (o x) alone) → ((x : Rows) (t : Option Tunnel) → o x ≡ value t → Walks x t) → Plans tables p o plan → OneAnswered tables plan out r out' → Told
   told_one o plan e w g a = record {
-    follows = λ z t l. subst (λ q. Follows q out r out') (sym (e (rows_of en ad ro ma))) (a.follows z t (o (rows_of en ad ro ma)) (g.answers z t l) (w (rows_of en ad ro ma)));
+    follows = λ z t l. subst (λ q. Follows q out r out') (sym (e (rows_of tables))) (a.follows z t (o (rows_of tables)) (g.answers z t l) (w (rows_of tables)));
     free = a.free;
   }
 
-  pub told_enabled : (n s : ℕ) → n ≡ type_number f.kind → s ≡ state_number f.state → (n ≡ 3 → ⊥) → s ≡ 2 → (plan : Result (Option Planned) Refusal) → Plans en ad ro ma p (λ x. tunnel_by x p f.number n) plan → OneAnswered en ad ro ma plan out r out' → Told
+  pub told_enabled : (n s : ℕ) → n ≡ type_number f.kind → s ≡ state_number f.state → (n ≡ 3 → ⊥) → s ≡ 2 → (plan : Result (Option Planned) Refusal) → Plans tables p (λ x. tunnel_by x p f.number n) plan → OneAnswered tables plan out r out' → Told
   unfolding discover facts_row
   told_enabled n s e q h on plan g a = told_one (λ x. tunnel_by x p f.number n) plan
       (λ x. by_number x p (facts_row p f) f.kind f.state (λ k. h (e ∙ k)) (eq-eqb (state_number f.state) 2 (sym q ∙ on)) ∙ ap (λ k. bind (tunnel_by x p f.number k) alone) (sym e))
       (λ x. tunnel_walks x p f.number n) g a
 
-module _ (en ad ro ma : List ℕ) (p : ℕ) (f : Facts) (out : List ℕ) where
-  told_none : ((x : Rows) → discover x p (facts_row p f) ≡ value None) → Told en ad ro ma p f out (Ok None) out
+module _ (tables : Tables) (p : ℕ) (f : Facts) (out : List ℕ) where
+  told_none : ((x : Rows) → discover x p (facts_row p f) ≡ value None) → Told tables p f out (Ok None) out
   unfolding is_list
-  told_none e = record { follows = λ z t l. follows_none (discover (rows_of en ad ro ma) p (facts_row p f)) out (e (rows_of en ad ro ma)); free = free_kept out (Ok None) refl }
+  told_none e = record { follows = λ z t l. follows_none (discover (rows_of tables) p (facts_row p f)) out (e (rows_of tables)); free = free_kept out (Ok None) refl }
 
   -- a disabled adapter
-  pub told_disabled : (n s : ℕ) → n ≡ type_number f.kind → s ≡ state_number f.state → (n ≡ 3 → ⊥) → (s ≡ 2 → ⊥) → Told en ad ro ma p f out (Ok None) out
+  pub told_disabled : (n s : ℕ) → n ≡ type_number f.kind → s ≡ state_number f.state → (n ≡ 3 → ⊥) → (s ≡ 2 → ⊥) → Told tables p f out (Ok None) out
   unfolding discover facts_row
   told_disabled n s e q a b = told_none (λ x. ap (λ y. cond y (of_kind x p (facts_row p f) f.kind) (value None)) (not_enabled f.kind f.state (λ k. a (e ∙ k)) (λ k. b (q ∙ k))))
 
 -- ---- the device and the adapter that are asked for
 
-module _ (en ad ro ma : List ℕ) (p a : ℕ) (out : List ℕ) where
-  pub in_larger : (Sized en ro → ⊥) → Discovered en ad ro ma p a out (Ok None) out
+module _ (tables : Tables) (p a : ℕ) (out : List ℕ) where
+  pub in_larger : (Sized tables → ⊥) → Discovered tables p a out (Ok None) out
   unfolding is_list
   in_larger n = let f = free_kept out (Ok None) refl in record { answers = λ z t. absurd (n z); writes = λ z t. absurd (n z); larger = λ k. refl; kept = f.kept; fits = f.fits; tail = f.tail; long = f.long }
 
-  in_by : (r : Result (Option ℕ) Refusal) (out' : List ℕ) → Sized en ro → (Tabled en ad ro → Follows (discover_at (rows_of en ad ro ma) p a) out r out') → Free out r out' → Discovered en ad ro ma p a out r out'
+  in_by : (r : Result (Option ℕ) Refusal) (out' : List ℕ) → Sized tables → (Tabled tables → Follows (discover_at (rows_of tables) p a) out r out') → Free out r out' → Discovered tables p a out r out'
   in_by r out' z f g = record { answers = λ y t. (f t).answers; writes = λ y t. (f t).writes; larger = λ n. absurd (n z); kept = g.kept; fits = g.fits; tail = g.tail; long = g.long }
 
-  in_missing : Sized en ro → (Tabled en ad ro → asked_adapter (rows_of en ad ro ma) p a ≡ refused 14 []) → Discovered en ad ro ma p a out (Err refusal.Missing) out
+  in_missing : Sized tables → (Tabled tables → asked_adapter (rows_of tables) p a ≡ refused 14 []) → Discovered tables p a out (Err refusal.Missing) out
   unfolding is_list discover_at bind
   in_missing z f = in_by (Err refusal.Missing) out z
-      (λ t. follows_refused (discover_at (rows_of en ad ro ma) p a) out refusal.Missing 14 [] (ap (λ o. bind o (λ y. discover (rows_of en ad ro ma) p y)) (f t)) (λ A. refl))
+      (λ t. follows_refused (discover_at (rows_of tables) p a) out refusal.Missing 14 [] (ap (λ o. bind o (λ y. discover (rows_of tables) p y)) (f t)) (λ A. refl))
       (free_kept out (Err refusal.Missing) refl)
 
-  module _ (z : Sized en ro) (d : Option DeviceFacts) (e : device_found p d ≡ device_in (devices_in ro ma) p) where
-    pub no_device : d ≡ None → Discovered en ad ro ma p a out (Err refusal.Missing) out
-    unfolding device_found asked_adapter asked_device present bind rows_of rows_with
-    no_device q = in_missing z (λ t. ap (λ o. bind (present o) (λ x. present (adapter_in (adapters_in ad) p a))) (sym e ∙ ap (device_found p) q))
+  module _ (z : Sized tables) (d : Option DeviceFacts) (e : device_found p d ≡ device_in (devices_in tables.routes.now tables.marks.now) p) where
+    pub no_device : d ≡ None → Discovered tables p a out (Err refusal.Missing) out
+    unfolding device_found asked_adapter asked_device present bind rows_of
+    no_device q = in_missing z (λ t. ap (λ o. bind (present o) (λ x. present (adapter_in (adapters_in tables.adapters.now) p a))) (sym e ∙ ap (device_found p) q))
 
     module _ (v : DeviceFacts) (q : d ≡ Some v) where
-      near : p < length ro
+      near : p < length tables.routes.now
       unfolding device_found
-      near = go (dec_lt p (length ro))
+      near = go (dec_lt p (length tables.routes.now))
         where
-          go : Dec (p < length ro) → p < length ro
+          go : Dec (p < length tables.routes.now) → p < length tables.routes.now
           go (yes l) = l
-          go (no l) = absurd (let w = sym (ap (device_found p) q) ∙ e ∙ sym (device_past_routes 0 ro ma p (omega arith)) in let y : ◌≡◌ {A = ℕ} 0 1 = cc in omega arith)
+          go (no l) = absurd (let w = sym (ap (device_found p) q) ∙ e ∙ sym (device_past_routes 0 tables.routes.now tables.marks.now p (omega arith)) in let y : ◌≡◌ {A = ℕ} 0 1 = cc in omega arith)
 
-      asked : asked_adapter (rows_of en ad ro ma) p a ≡ present (adapter_in (adapters_in ad) p a)
-      unfolding device_found asked_adapter asked_device present bind rows_of rows_with
-      asked = ap (λ o. bind (present o) (λ x. present (adapter_in (adapters_in ad) p a))) (sym e ∙ ap (device_found p) q)
+      asked : asked_adapter (rows_of tables) p a ≡ present (adapter_in (adapters_in tables.adapters.now) p a)
+      unfolding device_found asked_adapter asked_device present bind rows_of
+      asked = ap (λ o. bind (present o) (λ x. present (adapter_in (adapters_in tables.adapters.now) p a))) (sym e ∙ ap (device_found p) q)
 
-      module _ (s : Option Facts) (g : AdapterSought ad p a s) where
-        sought : Tabled en ad ro → adapter_found p s ≡ adapter_in (adapters_in ad) p a
+      module _ (s : Option Facts) (g : AdapterSought tables.adapters.now p a s) where
+        sought : Tabled tables → adapter_found p s ≡ adapter_in (adapters_in tables.adapters.now) p a
         sought t = g.first (omega (arith, near, z.devices)) t.adapter_order
 
-        pub no_adapter : s ≡ None → Discovered en ad ro ma p a out (Err refusal.Missing) out
+        pub no_adapter : s ≡ None → Discovered tables p a out (Err refusal.Missing) out
         unfolding adapter_found present
         no_adapter k = in_missing z (λ t. asked ∙ ap present (sym (sought t) ∙ ap (adapter_found p) k))
 
-        pub in_kind : (f : Facts) → s ≡ Some f → (r : Result (Option ℕ) Refusal) (out' : List ℕ) → Answered en ad ro ma p (λ x. discover x p (facts_row p f)) out r out' → Discovered en ad ro ma p a out r out'
+        pub in_kind : (f : Facts) → s ≡ Some f → (r : Result (Option ℕ) Refusal) (out' : List ℕ) → Answered tables p (λ x. discover x p (facts_row p f)) out r out' → Discovered tables p a out r out'
         unfolding adapter_found present discover_at bind
         in_kind f k r out' w = in_by r out' z
-            (λ t. subst (λ o. Follows o out r out') (sym (ap (λ o. bind o (λ y. discover (rows_of en ad ro ma) p y)) (asked ∙ ap present (sym (sought t) ∙ ap (adapter_found p) k)))) (w.follows z t (omega (arith, near, z.devices))))
+            (λ t. subst (λ o. Follows o out r out') (sym (ap (λ o. bind o (λ y. discover (rows_of tables) p y)) (asked ∙ ap present (sym (sought t) ∙ ap (adapter_found p) k)))) (w.follows z t (omega (arith, near, z.devices))))
             w.free

@@ -14,18 +14,19 @@ use Rattle.refusal.specs.Outcome.{Outcome, refused, value, bind}
 use Rattle.tables.specs.Rows.{EntryRow, DeviceRow, Rows, entry_in}
 use Rattle.tables.specs.Packed.{entry_word, entries_in}
 use Rattle.orbit.proofs.Orbit.{hop_to_make, hop_at_lem}
-use Rattle.fabric.specs.Tables.{rows_with}
-use Rattle.walk.specs.Walking.{Stand, walk_on}
+use Rattle.walk.specs.Walking.{walk_on}
 use Rattle.walk.specs.Rule.{walk_from}
-use Rattle.walk.specs.Tables.{rows_of, last_of}
+use Rattle.walk.specs.Tables.{last_of}
 use Rattle.walk.proofs.Laws.{hopped}
-use Rattle.path.specs.Put.{Sized}
 use Rattle.receive.specs.Receive.{at, Lane, Lane.lane, Lane.passed, Lane.dropped, lane_of, at_lane, Receive, Receive.received, Receive.nothing, Receive.lost, uses_ring, or_rest, or_next, among_hops, among_devices, receive}
 use Rattle.search.proofs.Laws.{past_hops}
 use Rattle.receive.proofs.Hops.{walk_none}
 use Rattle.tunnel.specs.Tunnels.{Tunnel, tx_path, with_paths, ring_tunnel, one_dma, rings}
 use Rattle.discovery.specs.Work.{rings_end, among}
 use Rattle.discovery.proofs.Rings.{rings_split}
+use Rattle.tables.specs.declared.Stand.{Stand}
+use Rattle.tables.specs.declared.Tables.{Tables}
+use Rattle.tables.specs.Tables.{Sized, rows_of}
 
 -- ---- of more rings than entries, one is no entry's out HopID
 
@@ -194,13 +195,13 @@ module _ (x : Rows) (v : ℕ) (u : Unused x v) where
 
 -- ---- rings past 65,535
 
-module _ (en ad ro ma : List ℕ) where
+module _ (tables : Tables) where
   abbrev x : Rows
-  x = rows_of en ad ro ma
+  x = rows_of tables
 
   past_walk : (p a h : ℕ) → 65535 < h → walk_from x (at p a h) ≡ value None
-  unfolding rows_of rows_with at
-  past_walk p a h k = walk_none x (at p a h) (past_hops en p a h k)
+  unfolding rows_of at
+  past_walk p a h k = walk_none x (at p a h) (past_hops tables.entries.now p a h k)
 
   past_out : (l : List ℕ) (v : ℕ) → 65535 < v → among v (outs (entries_in l)) ≡ false
   unfolding among entry_word
@@ -208,14 +209,14 @@ module _ (en ad ro ma : List ℕ) where
   past_out (w ∷ l) v k = ap (λ b. b || among v (outs (entries_in l))) (ne_eqb (w % 65536) v (λ e. omega arith)) ∙ past_out l v k
 
   -- a ring past them is as one of 1 to 4,097 that isn't received
-  past_ring : (p a v : ℕ) → Sized en ro → 65535 < v → ((h : ℕ) → 1 ≤ h → h < 65536 → (t : Option Tunnel) × (one_dma x p a h ≡ value t)) → one_dma x p a v ≡ value None
-  unfolding one_dma bind rows_of rows_with
-  past_ring p a v z k each = go (fresh 4096 (outs (entries_in en)) (omega (arith, z.entries, length-map (entries_in en) (λ (e : EntryRow). e.out_hop), length-map en entry_word)))
+  past_ring : (p a v : ℕ) → Sized tables → 65535 < v → ((h : ℕ) → 1 ≤ h → h < 65536 → (t : Option Tunnel) × (one_dma x p a h ≡ value t)) → one_dma x p a v ≡ value None
+  unfolding one_dma bind rows_of
+  past_ring p a v z k each = go (fresh 4096 (outs (entries_in tables.entries.now)) (omega (arith, z.entries, length-map (entries_in tables.entries.now) (λ (e : EntryRow). e.out_hop), length-map tables.entries.now entry_word)))
     where
       u : Unused x v
-      u = unused x v (past_out en v k)
+      u = unused x v (past_out tables.entries.now v k)
 
-      go : (q : ℕ) × (1 ≤ q) × (q ≤ 4096 + 1) × (among q (outs (entries_in en)) ≡ false) → one_dma x p a v ≡ value None
+      go : (q : ℕ) × (1 ≤ q) × (q ≤ 4096 + 1) × (among q (outs (entries_in tables.entries.now)) ≡ false) → one_dma x p a v ≡ value None
       go (q, from, to, n) = there (each q from (omega arith))
         where
           alike : receive x v ≡ receive x q
@@ -268,7 +269,7 @@ module _ (en ad ro ma : List ℕ) where
       ap (λ o. bind o (λ t. bind (rings x p a (suc h) m) (λ ts. value (option_to_list t ++ ts)))) (f h (omega arith))
       ∙ ap (λ r. bind r (λ ts. value ([] ++ ts))) (rings_none p a (suc h) m (λ v l. f v (omega arith)))
 
-  pub rings_capped : (p a hi : ℕ) → Sized en ro → rings x p a 1 hi ≡ rings x p a 1 (rings_end hi - 1)
+  pub rings_capped : (p a hi : ℕ) → Sized tables → rings x p a 1 hi ≡ rings x p a 1 (rings_end hi - 1)
   unfolding rings_end
   rings_capped p a hi z = go (dec_lt 65535 hi)
     where

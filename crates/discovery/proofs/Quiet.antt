@@ -14,8 +14,6 @@ use borrow.Author.Tests.{eq-eqb, ne_eqb, eqb-true}
 use Rattle.refusal.specs.Outcome.{Outcome, refused, value, bind}
 use Rattle.tables.specs.Rows.{entry_in}
 use Rattle.tables.specs.Packed.{entry_word, entries_in}
-use Rattle.fabric.specs.Tables.{rows_with}
-use Rattle.walk.specs.Tables.{rows_of, Tabled}
 use Rattle.receive.specs.Receive.{at, Receive, receive}
 use Rattle.receive.specs.Tables.{Said, said_of, received_outcome, Receives}
 use Rattle.receive.specs.declared.Received.{Received}
@@ -24,6 +22,8 @@ use Rattle.receive.proofs.Hops.{walk_none}
 use Rattle.tunnel.specs.Tunnels.{ring_tunnel, one_dma}
 use Rattle.discovery.specs.Work.{among, out_hops, Quiet, Unasked, mark_of, Unmarked, Spared, Resting, Idle}
 use Rattle.discovery.proofs.Past.{unused, receive_alike, bare_tunnel}
+use Rattle.tables.specs.declared.Tables.{Tables}
+use Rattle.tables.specs.Tables.{Tabled, rows_of}
 
 -- ---- the HopIDs by which entries leave, one by one
 
@@ -116,25 +116,25 @@ unfolding bind
 said_value (refused k vs) s e = absurd (let z : ◌≡◌ {A = ℕ} 0 1 = cc in omega arith)
 said_value (value r) s e = (r, refl)
 
-module _ (en ad ro ma : List ℕ) where
+module _ (tables : Tables) where
   -- one ring's, for all that no entry leaves by
-  pub quiet : (w : ℕ) (r : Result Received Refusal) (s : Said) → among w (out_hops en) ≡ false → Receives en ad ro ma w r → received_outcome w r ≡ value s → Quiet en ad ro ma
-  unfolding rows_of rows_with out_hops
+  pub quiet : (w : ℕ) (r : Result Received Refusal) (s : Said) → among w (out_hops tables.entries.now) ≡ false → Receives tables w r → received_outcome w r ≡ value s → Quiet tables
+  unfolding rows_of out_hops
   quiet w r s n f e = record {
     searched = λ t v m.
-        let y = said_value (receive (rows_of en ad ro ma) w) s (sym e ∙ f.answers t) in
-        (y.0, receive_alike (rows_of en ad ro ma) v w (unused (rows_of en ad ro ma) v m) (unused (rows_of en ad ro ma) w n) ∙ y.1);
+        let y = said_value (receive (rows_of tables) w) s (sym e ∙ f.answers t) in
+        (y.0, receive_alike (rows_of tables) v w (unused (rows_of tables) v m) (unused (rows_of tables) w n) ∙ y.1);
   }
 
   -- such a ring has no tunnel where no entry stands at it
 
-  rests : (p a v : ℕ) → Quiet en ad ro ma → Unasked en p a v → Tabled en ad ro → p < 65536 → one_dma (rows_of en ad ro ma) p a v ≡ value None
-  unfolding one_dma bind rows_of rows_with out_hops at
+  rests : (p a v : ℕ) → Quiet tables → Unasked tables.entries.now p a v → Tabled tables → p < 65536 → one_dma (rows_of tables) p a v ≡ value None
+  unfolding one_dma bind rows_of out_hops at
   rests p a v q u t l =
       let y = q.searched t v u.unused in
-      ap (λ s. bind s (λ tx. bind (receive (rows_of en ad ro ma) v) (λ r. value (ring_tunnel tx r)))) (walk_none (rows_of en ad ro ma) (at p a v) (u.missing l))
+      ap (λ s. bind s (λ tx. bind (receive (rows_of tables) v) (λ r. value (ring_tunnel tx r)))) (walk_none (rows_of tables) (at p a v) (u.missing l))
       ∙ ap (λ o. bind o (λ r. value (ring_tunnel None r))) y.1
-      ∙ ap value (bare_tunnel (rows_of en ad ro ma) v (unused (rows_of en ad ro ma) v u.unused) y.0 y.1)
+      ∙ ap value (bare_tunnel (rows_of tables) v (unused (rows_of tables) v u.unused) y.0 y.1)
 
-  pub all_rest : (p a : ℕ) (idle : List ℕ) → Quiet en ad ro ma → Resting en p a idle → Idle en ad ro ma p a idle
+  pub all_rest : (p a : ℕ) (idle : List ℕ) → Quiet tables → Resting tables.entries.now p a idle → Idle tables p a idle
   all_rest p a idle q u = record { rests = λ z t l j e. rests p a j q (u.rests j e) t l }

@@ -16,8 +16,6 @@ use Rattle.tables.specs.Rows.{Rows}
 use Rattle.refusal.specs.Refusal.{refused_by}
 use Rattle.refusal.specs.declared.Refusal.{Refusal}
 use Rattle.refusal.proofs.Laws.{refused_bind}
-use Rattle.walk.specs.Tables.{rows_of, Tabled}
-use Rattle.path.specs.Put.{Sized}
 use Rattle.path.proofs.Writing.{refused_as_lem}
 use Rattle.tunnel.specs.Tunnels.{Tunnel, one_dma, rings}
 use Rattle.tunnel.specs.Words.{tunnel_words, tunnels_words}
@@ -26,6 +24,8 @@ use Rattle.tunnel.specs.declared.Plan.{Plan as Planned}
 use Rattle.discovery.specs.Work.{Wrote, tally_of, mark_of, Marked, Idle, Drafted, Tallies, RingPut, RingsPut, PlanPut}
 use Rattle.discovery.proofs.Walks.{one_dma_walks}
 use Rattle.discovery.proofs.Writing.{wrote_nothing, wrote_front}
+use Rattle.tables.specs.declared.Tables.{Tables}
+use Rattle.tables.specs.Tables.{Sized, Tabled, rows_of}
 
 -- ---- a plan, by what it is the plan of
 
@@ -120,22 +120,22 @@ own_mark j ring e l = go (ltb 2047 j) refl e
     go true f g = absurd (omega arith)
     go false f g = g
 
-module _ (en ad ro ma : List ℕ) (p a : ℕ) where
+module _ (tables : Tables) (p a : ℕ) where
   -- none is marked
-  pub idle_start : (n : ℕ) → Idle en ad ro ma p a (replicate n 0)
+  pub idle_start : (n : ℕ) → Idle tables p a (replicate n 0)
   idle_start n = record { rests = λ z t q j e. absurd (go (mark_of j) e (dec_lt (mark_of j) n)) }
     where
       go : (j : ℕ) → ◌≡◌ {A = ℕ} (get_or (replicate n 0) j 0) 1 → Dec (j < n) → ⊥
       go j e (yes l) = omega (arith, get_or-replicate {A = ℕ} n j 0 0 l)
       go j e (no l) = omega (arith, get_or-eq_default {A = ℕ} (replicate n 0) 0 {n = j} (omega (arith, length-replicate {A = ℕ} n 0)))
 
-  pub idle_marked : (idle idle' : List ℕ) → Idle en ad ro ma p a idle → (ring : ℕ) (plan : Option Planned) → Plans en ad ro ma p (λ x. one_dma x p a ring) (Ok plan) → (w : ℕ) → tally_of plan ≡ w → Marked ring w idle idle' → Idle en ad ro ma p a idle'
-  idle_marked idle idle' i ring plan f w e m = record { rests = λ z t q j g. ⊎_elim (i.rests z t q j) (λ h. subst (λ k. one_dma (rows_of en ad ro ma) p a k ≡ value None) (sym (own_mark j ring h.0 h.1)) (here z t q h.2)) (m.marks (mark_of j) g) }
+  pub idle_marked : (idle idle' : List ℕ) → Idle tables p a idle → (ring : ℕ) (plan : Option Planned) → Plans tables p (λ x. one_dma x p a ring) (Ok plan) → (w : ℕ) → tally_of plan ≡ w → Marked ring w idle idle' → Idle tables p a idle'
+  idle_marked idle idle' i ring plan f w e m = record { rests = λ z t q j g. ⊎_elim (i.rests z t q j) (λ h. subst (λ k. one_dma (rows_of tables) p a k ≡ value None) (sym (own_mark j ring h.0 h.1)) (here z t q h.2)) (m.marks (mark_of j) g) }
     where
-      here : Sized en ro → Tabled en ad ro → p < 65536 → w < 1 → one_dma (rows_of en ad ro ma) p a ring ≡ value None
-      here z t q l = let y = plan_words plan (one_dma (rows_of en ad ro ma) p a ring) (f.answers z t q) w e in y.1 ∙ ap value (no_words y.0 (omega (arith, y.2)))
+      here : Sized tables → Tabled tables → p < 65536 → w < 1 → one_dma (rows_of tables) p a ring ≡ value None
+      here z t q l = let y = plan_words plan (one_dma (rows_of tables) p a ring) (f.answers z t q) w e in y.1 ∙ ap value (no_words y.0 (omega (arith, y.2)))
 
-  pub ring_idle : (idle : List ℕ) → Idle en ad ro ma p a idle → (ring : ℕ) → get_or idle (mark_of ring) 0 ≡ 1 → (at : ℕ) (out : List ℕ) → at ≤ length out → RingPut en ad ro ma p a ring at out at out
+  pub ring_idle : (idle : List ℕ) → Idle tables p a idle → (ring : ℕ) → get_or idle (mark_of ring) 0 ≡ 1 → (at : ℕ) (out : List ℕ) → at ≤ length out → RingPut tables p a ring at out at out
   unfolding tunnels_words
   ring_idle idle i ring e at out l = record {
     within = l;
@@ -143,15 +143,15 @@ module _ (en ad ro ma : List ℕ) (p a : ℕ) where
     words = λ z t q o g room. let y = sym (i.rests z t q ring e) ∙ g in let v : None ≡ o = cc in subst (λ k. Wrote at (tunnels_words (option_to_list k)) out at out) v (wrote_nothing at out);
   }
 
-  pub ring_put : (ring : ℕ) (plan : Result (Option Planned) Refusal) → Plans en ad ro ma p (λ x. one_dma x p a ring) plan → (at : ℕ) (out : List ℕ) (r : ℕ) (out' : List ℕ) → PlanPut en ad ro ma plan at out r out' → RingPut en ad ro ma p a ring at out r out'
+  pub ring_put : (ring : ℕ) (plan : Result (Option Planned) Refusal) → Plans tables p (λ x. one_dma x p a ring) plan → (at : ℕ) (out : List ℕ) (r : ℕ) (out' : List ℕ) → PlanPut tables plan at out r out' → RingPut tables p a ring at out r out'
   unfolding bind
   ring_put ring plan f at out r out' w = record {
     within = w.within;
     long = w.long;
-    words = λ z t q o e room. w.words z t o (f.answers z t q ∙ ap (λ y. bind y (λ t. value (plan_if t))) e) (one_dma_walks (rows_of en ad ro ma) p a ring o e) room;
+    words = λ z t q o e room. w.words z t o (f.answers z t q ∙ ap (λ y. bind y (λ t. value (plan_if t))) e) (one_dma_walks (rows_of tables) p a ring o e) room;
   }
 
-  pub idle_plan : (idle : List ℕ) → Idle en ad ro ma p a idle → (ring : ℕ) → get_or idle (mark_of ring) 0 ≡ 1 → Plans en ad ro ma p (λ x. one_dma x p a ring) (Ok None)
+  pub idle_plan : (idle : List ℕ) → Idle tables p a idle → (ring : ℕ) → get_or idle (mark_of ring) 0 ≡ 1 → Plans tables p (λ x. one_dma x p a ring) (Ok None)
   unfolding planned_outcome words_by paths_by plan_if bind
   idle_plan idle i ring e = record {
     answers = λ z t l. sym (ap (λ o. bind o (λ k. value (plan_if k))) (i.rests z t l ring e));
@@ -160,69 +160,69 @@ module _ (en ad ro ma : List ℕ) (p a : ℕ) where
   }
 
 -- rings that are refused have no words to draft
-pub drafted_refused : (en ad ro ma : List ℕ) (p a k : ℕ) (r : Refusal) → Tallies en ad ro ma p a k (Err r) → (draft : List ℕ) → Drafted en ad ro ma p a k draft
+pub drafted_refused : (tables : Tables) (p a k : ℕ) (r : Refusal) → Tallies tables p a k (Err r) → (draft : List ℕ) → Drafted tables p a k draft
 unfolding bind
-drafted_refused en ad ro ma p a k r t draft = record {
+drafted_refused tables p a k r t draft = record {
   words = λ z l q ts e n. absurd (let y = refused_as_lem (value (length (tunnels_words ts))) r (t.counts z l q ∙ ap (λ o. bind o (λ us. value (length (tunnels_words us)))) e) in let v = y.2 in let u : ◌≡◌ {A = ℕ} 0 1 = cc in omega arith);
 }
 
 -- what was drafted is put
-pub drafted_put : (en ad ro ma : List ℕ) (p a k : ℕ) (draft out : List ℕ) → Drafted en ad ro ma p a k draft → length out ≤ length draft → (out' : List ℕ) → out' ≡ take (length out) draft → RingsPut en ad ro ma p a k out out'
-drafted_put en ad ro ma p a k draft out d l out' f = record {
+pub drafted_put : (tables : Tables) (p a k : ℕ) (draft out : List ℕ) → Drafted tables p a k draft → length out ≤ length draft → (out' : List ℕ) → out' ≡ take (length out) draft → RingsPut tables p a k out out'
+drafted_put tables p a k draft out d l out' f = record {
   long = ap length f ∙ length-take-le (length out) draft l;
   words = λ z t q ts e n. f ∙ ap (λ j. take j draft) n ∙ d.words z t q ts e (omega (arith, n));
 }
 
 -- ---- the tally
 
-module _ (en ad ro ma : List ℕ) (p a end : ℕ) where
+module _ (tables : Tables) (p a end : ℕ) where
   pub record Counted (need ring : ℕ) : Type 0 where
     pub from : 1 ≤ ring
     pub to : ring ≤ end
     pub few : need ≤ 1048576 * ring
-    pub rest : Sized en ro → Tabled en ad ro → p < 65536 → bind (rings (rows_of en ad ro ma) p a 1 (end - 1)) (λ ts. value (length (tunnels_words ts))) ≡ counts (rows_of en ad ro ma) p a ring (end - ring) need
+    pub rest : Sized tables → Tabled tables → p < 65536 → bind (rings (rows_of tables) p a 1 (end - 1)) (λ ts. value (length (tunnels_words ts))) ≡ counts (rows_of tables) p a ring (end - ring) need
 
   pub counted_start : 1 ≤ end → Counted 0 1
   unfolding counts bind
-  counted_start l = record { from = omega arith; to = l; few = omega arith; rest = λ z t q. go (rings (rows_of en ad ro ma) p a 1 (end - 1)) }
+  counted_start l = record { from = omega arith; to = l; few = omega arith; rest = λ z t q. go (rings (rows_of tables) p a 1 (end - 1)) }
     where
       go : (o : Outcome (List Tunnel)) → bind o (λ ts. value (length (tunnels_words ts))) ≡ bind o (λ ts. value (0 + length (tunnels_words ts)))
       go (refused j vs) = refl
       go (value ts) = ap value (omega arith)
 
-  pub counted_end : (need ring : ℕ) → Counted need ring → end ≤ ring → Tallies en ad ro ma p a (end - 1) (Ok need)
+  pub counted_end : (need ring : ℕ) → Counted need ring → end ≤ ring → Tallies tables p a (end - 1) (Ok need)
   unfolding counts rings bind tunnels_words
   counted_end need ring c l = record {
-    counts = λ z t q. sym (c.rest z t q ∙ ap (λ k. counts (rows_of en ad ro ma) p a ring k need) (let y : end - ring ≡ 0 = omega arith in y) ∙ ap value (let y : need + 0 ≡ need = omega arith in y));
+    counts = λ z t q. sym (c.rest z t q ∙ ap (λ k. counts (rows_of tables) p a ring k need) (let y : end - ring ≡ 0 = omega arith in y) ∙ ap value (let y : need + 0 ≡ need = omega arith in y));
   }
 
   module _ (need ring : ℕ) (c : Counted need ring) (more : ring < end) where
     left : end - ring ≡ suc (end - (ring + 1))
     left = omega arith
 
-    pub counted_on : (plan : Option Planned) → Plans en ad ro ma p (λ x. one_dma x p a ring) (Ok plan) → (w : ℕ) → tally_of plan ≡ w → Counted (need + w) (ring + 1)
+    pub counted_on : (plan : Option Planned) → Plans tables p (λ x. one_dma x p a ring) (Ok plan) → (w : ℕ) → tally_of plan ≡ w → Counted (need + w) (ring + 1)
     counted_on plan f w e = record {
       from = omega arith;
       to = omega arith;
       few = omega (arith, c.few, tally_few plan w e f.few);
       rest = λ z t q.
-          let y = plan_words plan (one_dma (rows_of en ad ro ma) p a ring) (f.answers z t q) w e in
-          c.rest z t q ∙ ap (λ k. counts (rows_of en ad ro ma) p a ring k need) left ∙ counts_step (rows_of en ad ro ma) p a ring (end - (ring + 1)) need y.0 y.1
-          ∙ ap (λ k. counts (rows_of en ad ro ma) p a k (end - (ring + 1)) (need + length (tunnels_words (option_to_list y.0)))) (let v : suc ring ≡ ring + 1 = omega arith in v)
-          ∙ ap (λ k. counts (rows_of en ad ro ma) p a (ring + 1) (end - (ring + 1)) (need + k)) (sym y.2);
+          let y = plan_words plan (one_dma (rows_of tables) p a ring) (f.answers z t q) w e in
+          c.rest z t q ∙ ap (λ k. counts (rows_of tables) p a ring k need) left ∙ counts_step (rows_of tables) p a ring (end - (ring + 1)) need y.0 y.1
+          ∙ ap (λ k. counts (rows_of tables) p a k (end - (ring + 1)) (need + length (tunnels_words (option_to_list y.0)))) (let v : suc ring ≡ ring + 1 = omega arith in v)
+          ∙ ap (λ k. counts (rows_of tables) p a (ring + 1) (end - (ring + 1)) (need + k)) (sym y.2);
     }
 
-    pub counted_refused : (r : Refusal) → Plans en ad ro ma p (λ x. one_dma x p a ring) (Err r) → Tallies en ad ro ma p a (end - 1) (Err r)
+    pub counted_refused : (r : Refusal) → Plans tables p (λ x. one_dma x p a ring) (Err r) → Tallies tables p a (end - 1) (Err r)
     counted_refused r f = record {
       counts = λ z t q.
-          let y = plan_refused r (one_dma (rows_of en ad ro ma) p a ring) (f.answers z t q) in
-          y.3 ℕ ∙ sym (c.rest z t q ∙ ap (λ k. counts (rows_of en ad ro ma) p a ring k need) left ∙ counts_refused (rows_of en ad ro ma) p a ring (end - (ring + 1)) need y.0 y.1 y.2);
+          let y = plan_refused r (one_dma (rows_of tables) p a ring) (f.answers z t q) in
+          y.3 ℕ ∙ sym (c.rest z t q ∙ ap (λ k. counts (rows_of tables) p a ring k need) left ∙ counts_refused (rows_of tables) p a ring (end - (ring + 1)) need y.0 y.1 y.2);
     }
 
   -- a ring that has none is passed
-  pub counted_past : (need ring : ℕ) → Counted need ring → ring < end → (idle : List ℕ) → Idle en ad ro ma p a idle → get_or idle (mark_of ring) 0 ≡ 1 → Counted need (ring + 1)
+  pub counted_past : (need ring : ℕ) → Counted need ring → ring < end → (idle : List ℕ) → Idle tables p a idle → get_or idle (mark_of ring) 0 ≡ 1 → Counted need (ring + 1)
   unfolding tally_of
-  counted_past need ring c more idle i e = subst (λ n. Counted n (ring + 1)) (let y : need + 0 ≡ need = omega arith in y) (counted_on need ring c more None (idle_plan en ad ro ma p a idle i ring e) 0 refl)
+  counted_past need ring c more idle i e = subst (λ n. Counted n (ring + 1)) (let y : need + 0 ≡ need = omega arith in y) (counted_on need ring c more None (idle_plan tables p a idle i ring e) 0 refl)
 
   -- ---- the words
 
@@ -231,23 +231,23 @@ module _ (en ad ro ma : List ℕ) (p a end : ℕ) where
     pub to : ring ≤ end
     pub within : at ≤ length out
     pub long : length out ≡ length out₀
-    pub rest : Sized en ro → Tabled en ad ro → p < 65536 → (ts : List Tunnel) → rings (rows_of en ad ro ma) p a 1 (end - 1) ≡ value ts → length (tunnels_words ts) ≤ length out₀
-        → (us : List Tunnel) × (rings (rows_of en ad ro ma) p a ring (end - ring) ≡ value us) × (take at out ++ tunnels_words us ≡ tunnels_words ts)
+    pub rest : Sized tables → Tabled tables → p < 65536 → (ts : List Tunnel) → rings (rows_of tables) p a 1 (end - 1) ≡ value ts → length (tunnels_words ts) ≤ length out₀
+        → (us : List Tunnel) × (rings (rows_of tables) p a ring (end - ring) ≡ value us) × (take at out ++ tunnels_words us ≡ tunnels_words ts)
 
   pub putting_start : (out : List ℕ) → 1 ≤ end → Putting out 0 1 out
   putting_start out l = record { from = omega arith; to = l; within = omega arith; long = refl; rest = λ z t q ts e n. (ts, e, refl) }
 
   module _ (out₀ : List ℕ) (at ring : ℕ) (out : List ℕ) (c : Putting out₀ at ring out) where
     -- no ring is left
-    put_all : end ≤ ring → Sized en ro → Tabled en ad ro → p < 65536 → (ts : List Tunnel) → rings (rows_of en ad ro ma) p a 1 (end - 1) ≡ value ts → length (tunnels_words ts) ≤ length out₀ → take at out ≡ tunnels_words ts
+    put_all : end ≤ ring → Sized tables → Tabled tables → p < 65536 → (ts : List Tunnel) → rings (rows_of tables) p a 1 (end - 1) ≡ value ts → length (tunnels_words ts) ≤ length out₀ → take at out ≡ tunnels_words ts
     unfolding rings tunnels_words
     put_all l z t q ts e n =
         let y = c.rest z t q ts e n in
-        let k : value [] ≡ value y.0 = ap (rings (rows_of en ad ro ma) p a ring) (let v : 0 ≡ end - ring = omega arith in v) ∙ y.1 in
+        let k : value [] ≡ value y.0 = ap (rings (rows_of tables) p a ring) (let v : 0 ≡ end - ring = omega arith in v) ∙ y.1 in
         let none_left : [] ≡ y.0 = cc in
         sym (append-nil (take at out)) ∙ ap (λ us. take at out ++ tunnels_words us) none_left ∙ y.2
 
-    pub putting_end : end ≤ ring → RingsPut en ad ro ma p a (end - 1) out₀ out
+    pub putting_end : end ≤ ring → RingsPut tables p a (end - 1) out₀ out
     putting_end l = record {
       long = c.long;
       words = λ z t q ts e n.
@@ -255,7 +255,7 @@ module _ (en ad ro ma : List ℕ) (p a end : ℕ) where
           sym (take_all at out (omega (arith, n, c.long, ap length whole, length-take-le at out c.within))) ∙ whole;
     }
 
-    pub putting_drafted : end ≤ ring → Drafted en ad ro ma p a (end - 1) out
+    pub putting_drafted : end ≤ ring → Drafted tables p a (end - 1) out
     putting_drafted l = record {
       words = λ z t q ts e n.
           let whole = put_all l z t q ts e (omega (arith, n, c.long)) in
@@ -263,7 +263,7 @@ module _ (en ad ro ma : List ℕ) (p a end : ℕ) where
     }
 
     -- no words are left
-    pub putting_full : length out ≤ at → RingsPut en ad ro ma p a (end - 1) out₀ out
+    pub putting_full : length out ≤ at → RingsPut tables p a (end - 1) out₀ out
     putting_full l = record {
       long = c.long;
       words = λ z t q ts e n.
@@ -273,8 +273,8 @@ module _ (en ad ro ma : List ℕ) (p a end : ℕ) where
     }
 
     -- the words of the next ring are put before those that are left
-    module _ (r : ℕ) (out' : List ℕ) (w : RingPut en ad ro ma p a ring at out r out') (z : Sized en ro) (l : Tabled en ad ro) (q : p < 65536) (ts us vs : List Tunnel) (t : Option Tunnel) (n : length (tunnels_words ts) ≤ length out₀)
-        (whole : take at out ++ tunnels_words us ≡ tunnels_words ts) (e : us ≡ option_to_list t ++ vs) (d : one_dma (rows_of en ad ro ma) p a ring ≡ value t) where
+    module _ (r : ℕ) (out' : List ℕ) (w : RingPut tables p a ring at out r out') (z : Sized tables) (l : Tabled tables) (q : p < 65536) (ts us vs : List Tunnel) (t : Option Tunnel) (n : length (tunnels_words ts) ≤ length out₀)
+        (whole : take at out ++ tunnels_words us ≡ tunnels_words ts) (e : us ≡ option_to_list t ++ vs) (d : one_dma (rows_of tables) p a ring ≡ value t) where
       split : tunnels_words us ≡ tunnels_words (option_to_list t) ++ tunnels_words vs
       split = ap tunnels_words e ∙ tunnels_append (option_to_list t) vs
 
@@ -286,7 +286,7 @@ module _ (en ad ro ma : List ℕ) (p a end : ℕ) where
           ap (λ l. l ++ tunnels_words vs) (wrote_front at (tunnels_words (option_to_list t)) out r out' room (w.words z l q t d room))
           ∙ append_assoc (take at out) (tunnels_words (option_to_list t)) (tunnels_words vs) ∙ ap (λ l. take at out ++ l) (sym split) ∙ whole
 
-    pub putting_on : ring < end → (r : ℕ) (out' : List ℕ) → RingPut en ad ro ma p a ring at out r out' → Putting out₀ r (ring + 1) out'
+    pub putting_on : ring < end → (r : ℕ) (out' : List ℕ) → RingPut tables p a ring at out r out' → Putting out₀ r (ring + 1) out'
     putting_on more r out' w = record {
       from = omega arith;
       to = omega arith;
@@ -295,14 +295,14 @@ module _ (en ad ro ma : List ℕ) (p a end : ℕ) where
       rest = λ z l q ts e n. go z l q ts n (c.rest z l q ts e n);
     }
       where
-        go : Sized en ro → Tabled en ad ro → p < 65536 → (ts : List Tunnel) → length (tunnels_words ts) ≤ length out₀ → (us : List Tunnel) × (rings (rows_of en ad ro ma) p a ring (end - ring) ≡ value us) × (take at out ++ tunnels_words us ≡ tunnels_words ts)
-            → (vs : List Tunnel) × (rings (rows_of en ad ro ma) p a (ring + 1) (end - (ring + 1)) ≡ value vs) × (take r out' ++ tunnels_words vs ≡ tunnels_words ts)
-        go z l q ts n (us, e, whole) = next (rings_split (rows_of en ad ro ma) p a ring (end - (ring + 1)) us (ap (rings (rows_of en ad ro ma) p a ring) (let v : suc (end - (ring + 1)) ≡ end - ring = omega arith in v) ∙ e))
+        go : Sized tables → Tabled tables → p < 65536 → (ts : List Tunnel) → length (tunnels_words ts) ≤ length out₀ → (us : List Tunnel) × (rings (rows_of tables) p a ring (end - ring) ≡ value us) × (take at out ++ tunnels_words us ≡ tunnels_words ts)
+            → (vs : List Tunnel) × (rings (rows_of tables) p a (ring + 1) (end - (ring + 1)) ≡ value vs) × (take r out' ++ tunnels_words vs ≡ tunnels_words ts)
+        go z l q ts n (us, e, whole) = next (rings_split (rows_of tables) p a ring (end - (ring + 1)) us (ap (rings (rows_of tables) p a ring) (let v : suc (end - (ring + 1)) ≡ end - ring = omega arith in v) ∙ e))
           where
-            next : (t : Option Tunnel) × (vs : List Tunnel) × (one_dma (rows_of en ad ro ma) p a ring ≡ value t) × (rings (rows_of en ad ro ma) p a (suc ring) (end - (ring + 1)) ≡ value vs) × (us ≡ option_to_list t ++ vs)
-                → (vs : List Tunnel) × (rings (rows_of en ad ro ma) p a (ring + 1) (end - (ring + 1)) ≡ value vs) × (take r out' ++ tunnels_words vs ≡ tunnels_words ts)
+            next : (t : Option Tunnel) × (vs : List Tunnel) × (one_dma (rows_of tables) p a ring ≡ value t) × (rings (rows_of tables) p a (suc ring) (end - (ring + 1)) ≡ value vs) × (us ≡ option_to_list t ++ vs)
+                → (vs : List Tunnel) × (rings (rows_of tables) p a (ring + 1) (end - (ring + 1)) ≡ value vs) × (take r out' ++ tunnels_words vs ≡ tunnels_words ts)
             next (t, vs, d, g, h) = (
               vs,
-              ap (λ k. rings (rows_of en ad ro ma) p a k (end - (ring + 1))) (let v : ring + 1 ≡ suc ring = omega arith in v) ∙ g,
+              ap (λ k. rings (rows_of tables) p a k (end - (ring + 1))) (let v : ring + 1 ≡ suc ring = omega arith in v) ∙ g,
               put_next r out' w z l q ts us vs t n whole h d,
             )

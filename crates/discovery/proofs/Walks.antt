@@ -10,13 +10,14 @@ use Rattle.refusal.specs.Outcome.{Outcome, refused, value, bind}
 use Rattle.usb4.specs.declared.TunnelType.{TunnelType}
 use Rattle.tables.specs.Rows.{EntryRow, DeviceRow, Rows}
 use Rattle.orbit.specs.Walk.{Spot.stand, found, arrive, walk_n}
-use Rattle.walk.specs.Walking.{Stand, End, walk_on}
+use Rattle.walk.specs.Walking.{End, walk_on}
 use Rattle.walk.specs.Rule.{walk_from, stand_of}
 use Rattle.walk.proofs.Laws.{hopped, path_rule}
 use Rattle.receive.specs.Receive.{at, Lane, Lane.lane, Lane.passed, Lane.dropped, lane_of, at_lane, Receive, Receive.received, Receive.nothing, Receive.lost, uses_ring, or_rest, or_next, among_hops, among_devices, receive}
 use Rattle.tunnel.specs.Tunnels.{Tunnel, path, or_absent, needed, tunnel_of, down_and_up, display_port, tx_path, with_paths, ring_tunnel, one_dma}
 use Rattle.tunnel.specs.Plans.{start_of}
 use Rattle.discovery.specs.Work.{AllWalk, Walks}
+use Rattle.tables.specs.declared.Stand.{Stand}
 
 -- ---- a path starts where it was looked for
 

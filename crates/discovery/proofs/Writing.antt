@@ -13,10 +13,8 @@ use Rattle.refusal.specs.Outcome.{value}
 use Rattle.usb4.specs.Numbers.{tunnel_number}
 use Rattle.usb4.specs.declared.TunnelType.{TunnelType}
 use Rattle.usb4.specs.declared.TunnelType.TheVariants as tunnel_type
-use Rattle.walk.specs.Walking.{Stand}
-use Rattle.walk.specs.Tables.{rows_of, Tabled}
 use Rattle.path.specs.Words.{path_words, words_needed, with_path}
-use Rattle.path.specs.Put.{Sized, WalkPut}
+use Rattle.path.specs.Put.{WalkPut}
 use Rattle.path.proofs.Writing.{refused_as_lem}
 use Rattle.tunnel.specs.Tunnels.{Path, Tunnel}
 use Rattle.tunnel.specs.Words.{closed, paths_words, tunnel_word, tunnel_words, tunnels_words}
@@ -25,6 +23,9 @@ use Rattle.tunnel.specs.declared.Start.{Start}
 use Rattle.tunnel.specs.declared.Plan.{Plan as Planned}
 use Rattle.refusal.specs.declared.Refusal.{Refusal}
 use Rattle.discovery.specs.Work.{Wrote, PathPut, AllWalk, Walks, PlanPut}
+use Rattle.tables.specs.declared.Stand.{Stand}
+use Rattle.tables.specs.declared.Tables.{Tables}
+use Rattle.tables.specs.Tables.{Sized, Tabled, rows_of}
 
 -- ---- words put one after another
 
@@ -66,7 +67,7 @@ part_is out at = take_all (length out - at) (drop at out) (omega (arith, length-
 put_back : (out S : List ℕ) (at : ℕ) → put_mid at (length out - at) out S ≡ take at out ++ S
 put_back out S at = ap (λ l. take at out ++ (S ++ l)) (drop_of_length-le (drop at out) {i = length out - at} (omega (arith, length-drop at out))) ∙ ap (λ l. take at out ++ l) (append-nil S)
 
-module _ (en ad ro ma out S : List ℕ) (s : Stand) (name at r : ℕ) (room : at ≤ length out) (p : WalkPut en ad ro ma s name (take (length out - at) (drop at out)) r S) where
+module _ (tables : Tables) (out S : List ℕ) (s : Stand) (name at r : ℕ) (room : at ≤ length out) (p : WalkPut tables s name (take (length out - at) (drop at out)) r S) where
   part_long : length (take (length out - at) (drop at out)) ≡ length out - at
   part_long = ap length (part_is out at) ∙ length-drop at out
 
@@ -76,7 +77,7 @@ module _ (en ad ro ma out S : List ℕ) (s : Stand) (name at r : ℕ) (room : at
   pub path_fits : at + r ≤ length out
   path_fits = omega (arith, p.fits, part_long)
 
-  pub path_put : PathPut en ad ro ma (record { stand = s; name = name }) at out (at + r) (put_mid at (length out - at) out S)
+  pub path_put : PathPut tables (record { stand = s; name = name }) at out (at + r) (put_mid at (length out - at) out S)
   unfolding words_needed with_path
   path_put = record {
     within = path_fits;
@@ -96,13 +97,13 @@ module _ (en ad ro ma out S : List ℕ) (s : Stand) (name at r : ℕ) (room : at
 
 -- ---- a tunnel
 
-module _ (en ad ro ma : List ℕ) where
+module _ (tables : Tables) where
   -- paths put one after another
   unfoldable pub Laid : List From → ℕ → List ℕ → ℕ → List ℕ → Type 0
   Laid [] at out r out' = (r ≡ at) × (out' ≡ out)
-  Laid (f ∷ fs) at out r out' = (m : ℕ) × (mid : List ℕ) × PathPut en ad ro ma f at out m mid × Laid fs m mid r out'
+  Laid (f ∷ fs) at out r out' = (m : ℕ) × (mid : List ℕ) × PathPut tables f at out m mid × Laid fs m mid r out'
 
-  laid_words : Sized en ro → Tabled en ad ro → (ps : List Path) → AllWalk (rows_of en ad ro ma) ps → (at : ℕ) (out : List ℕ) (r : ℕ) (out' : List ℕ) → Laid (map from_of ps) at out r out' → at + length (paths_words ps) ≤ length out
+  laid_words : Sized tables → Tabled tables → (ps : List Path) → AllWalk (rows_of tables) ps → (at : ℕ) (out : List ℕ) (r : ℕ) (out' : List ℕ) → Laid (map from_of ps) at out r out' → at + length (paths_words ps) ≤ length out
       → Wrote at (paths_words ps) out r out'
   unfolding Laid AllWalk paths_words from_of
   laid_words z t [] a at out r out' l room = rw (l.0, l.1) (wrote_nothing at out)
@@ -112,7 +113,7 @@ module _ (en ad ro ma : List ℕ) where
       wrote_then at (path_words p.name p.hops) out m mid (omega (arith, n)) w (paths_words ps) r out' (laid_words z t ps a.1 m mid r out' l (omega (arith, n, w.next, f.long)))
 
   -- no tunnel is planned, or there is no room for it
-  pub plan_not_put : (plan : Result (Option Planned) Refusal) (at : ℕ) (out : List ℕ) → at ≤ length out → ((t : Tunnel) → planned_outcome plan ≡ value (Some (plan_of t)) → at < length out → ⊥) → PlanPut en ad ro ma plan at out at out
+  pub plan_not_put : (plan : Result (Option Planned) Refusal) (at : ℕ) (out : List ℕ) → at ≤ length out → ((t : Tunnel) → planned_outcome plan ≡ value (Some (plan_of t)) → at < length out → ⊥) → PlanPut tables plan at out at out
   unfolding plan_if tunnels_words tunnel_words
   plan_not_put plan at out room never = record { within = room; long = refl; words = λ z t o e w fits. go o e fits }
     where
@@ -120,15 +121,15 @@ module _ (en ad ro ma : List ℕ) where
       go None e fits = wrote_nothing at out
       go (Some t) e fits = absurd (never t e (omega (arith, length-append (tunnel_words t) [])))
 
-  pub plan_none : (plan : Option Planned) (at : ℕ) (out : List ℕ) → at ≤ length out → plan ≡ None → PlanPut en ad ro ma (Ok plan) at out at out
+  pub plan_none : (plan : Option Planned) (at : ℕ) (out : List ℕ) → at ≤ length out → plan ≡ None → PlanPut tables (Ok plan) at out at out
   unfolding planned_outcome
   plan_none plan at out room k = plan_not_put (Ok plan) at out room (λ t e l. let w = sym (ap (λ z. planned_outcome (Ok z)) k) ∙ e in let z : ◌≡◌ {A = ℕ} 0 1 = cc in omega arith)
 
-  pub plan_unput : (r : Refusal) (at : ℕ) (out : List ℕ) → at ≤ length out → PlanPut en ad ro ma (Err r) at out at out
+  pub plan_unput : (r : Refusal) (at : ℕ) (out : List ℕ) → at ≤ length out → PlanPut tables (Err r) at out at out
   unfolding planned_outcome
   plan_unput r at out room = plan_not_put (Err r) at out room (λ t e l. let w = refused_as_lem (value (Some (plan_of t))) r e in let v = w.2 in let z : ◌≡◌ {A = ℕ} 0 1 = cc in omega arith)
 
-  pub plan_full : (plan : Result (Option Planned) Refusal) (at : ℕ) (out : List ℕ) → at ≤ length out → length out ≤ at → PlanPut en ad ro ma plan at out at out
+  pub plan_full : (plan : Result (Option Planned) Refusal) (at : ℕ) (out : List ℕ) → at ≤ length out → length out ≤ at → PlanPut tables plan at out at out
   plan_full plan at out room l = plan_not_put plan at out room (λ t e k. omega arith)
 
   module _ (plan : Result (Option Planned) Refusal) (k : TunnelType) (c : Bool) (w n : ℕ) (a b d : Start) (is-plan : plan ≡ Ok (Some (planned_as k c w n a b d))) (at : ℕ) (out : List ℕ) (room : at < length out) (word : ℕ)
@@ -137,11 +138,11 @@ module _ (en ad ro ma : List ℕ) where
     three = from_by a ∷ from_by b ∷ from_by d ∷ []
 
     -- the paths that are planned
-    plan_put : (r : ℕ) (out' : List ℕ) → r ≤ length out → length out' ≡ length out → (fs : List From) → take n three ≡ fs → n ≡ length fs → Laid fs (at + 1) (set out at word) r out' → PlanPut en ad ro ma plan at out r out'
+    plan_put : (r : ℕ) (out' : List ℕ) → r ≤ length out → length out' ≡ length out → (fs : List From) → take n three ≡ fs → n ≡ length fs → Laid fs (at + 1) (set out at word) r out' → PlanPut tables plan at out r out'
     unfolding planned_outcome plan_if plan_of tunnels_words tunnel_words tunnel_word Walks
     plan_put r out' within long fs e l laid = record { within = within; long = long; words = λ z t o q v fits. go z t o (sym (ap planned_outcome is-plan) ∙ q) v fits }
       where
-        go : Sized en ro → Tabled en ad ro → (o : Option Tunnel) → planned_outcome (Ok (Some (planned_as k c w n a b d))) ≡ value (plan_if o) → Walks (rows_of en ad ro ma) o → at + length (tunnels_words (option_to_list o)) ≤ length out → Wrote at (tunnels_words (option_to_list o)) out r out'
+        go : Sized tables → Tabled tables → (o : Option Tunnel) → planned_outcome (Ok (Some (planned_as k c w n a b d))) ≡ value (plan_if o) → Walks (rows_of tables) o → at + length (tunnels_words (option_to_list o)) ≤ length out → Wrote at (tunnels_words (option_to_list o)) out r out'
         go z t None q v fits = absurd (let y : ◌≡◌ {A = ℕ} 0 1 = cc in omega arith)
         go z t (Some u) q v fits =
             let plan-is : record { type = k; closed = c; words = w; starts = take n three } ≡ plan_of u = cc in
@@ -155,33 +156,33 @@ module _ (en ad ro ma : List ℕ) where
             let rest = laid_words z t u.paths v (at + 1) (set out at word) r out' (subst (λ y. Laid y (at + 1) (set out at word) r out') paths laid) (omega (arith, f, length-set out at word)) in
             subst (λ y. Wrote at y out r out') (ap (λ y. y ∷ paths_words u.paths) head ∙ sym (append-nil (tunnel_words u))) (wrote_then at (word ∷ []) out (at + 1) (set out at word) (omega arith) one (paths_words u.paths) r out' rest)
 
-    pub plan_put_0 : n < 1 → PlanPut en ad ro ma plan at out (at + 1) (set out at word)
+    pub plan_put_0 : n < 1 → PlanPut tables plan at out (at + 1) (set out at word)
     unfolding Laid
     plan_put_0 l = plan_put _ _ (omega arith) (length-set out at word) [] (ap (λ y. take y three) (let z : n ≡ 0 = omega arith in z)) (omega arith) (refl, refl)
 
-    module _ (i : ℕ) (one : List ℕ) (f : PathPut en ad ro ma (from_by a) (at + 1) (set out at word) i one) where
+    module _ (i : ℕ) (one : List ℕ) (f : PathPut tables (from_by a) (at + 1) (set out at word) i one) where
       pub one_within : i ≤ length one
       one_within = omega (arith, f.within, f.long)
 
       pub one_long : length one ≡ length out
       one_long = f.long ∙ length-set out at word
 
-      pub plan_put_1 : 1 ≤ n → n < 2 → PlanPut en ad ro ma plan at out i one
+      pub plan_put_1 : 1 ≤ n → n < 2 → PlanPut tables plan at out i one
       unfolding Laid
       plan_put_1 g l = plan_put i one (omega (arith, one_within, one_long)) one_long (from_by a ∷ []) (ap (λ y. take y three) (let z : n ≡ 1 = omega arith in z)) (omega arith) (i, one, f, (refl, refl))
 
-      module _ (j : ℕ) (two : List ℕ) (h : PathPut en ad ro ma (from_by b) i one j two) where
+      module _ (j : ℕ) (two : List ℕ) (h : PathPut tables (from_by b) i one j two) where
         pub two_within : j ≤ length two
         two_within = omega (arith, h.within, h.long)
 
         pub two_long : length two ≡ length out
         two_long = h.long ∙ one_long
 
-        pub plan_put_2 : 2 ≤ n → n < 3 → PlanPut en ad ro ma plan at out j two
+        pub plan_put_2 : 2 ≤ n → n < 3 → PlanPut tables plan at out j two
         unfolding Laid
         plan_put_2 g l = plan_put j two (omega (arith, two_within, two_long)) two_long (from_by a ∷ from_by b ∷ []) (ap (λ y. take y three) (let z : n ≡ 2 = omega arith in z)) (omega arith) (i, one, f, (j, two, h, (refl, refl)))
 
-        pub plan_put_3 : 3 ≤ n → paths_by plan ≤ 3 → (r : ℕ) (out' : List ℕ) → PathPut en ad ro ma (from_by d) j two r out' → PlanPut en ad ro ma plan at out r out'
+        pub plan_put_3 : 3 ≤ n → paths_by plan ≤ 3 → (r : ℕ) (out' : List ℕ) → PathPut tables (from_by d) j two r out' → PlanPut tables plan at out r out'
         unfolding Laid paths_by
         plan_put_3 g few r out' x =
             let most : n ≤ 3 = subst (λ y. paths_by y ≤ 3) is-plan few in

@@ -8,9 +8,7 @@ use Rattle.tables.specs.Rows.{EntryRow, Rows, entry_in}
 use Rattle.tables.specs.Packed.{entries_in}
 use Rattle.refusal.specs.Refusal.{refused_by}
 use Rattle.walk.specs.Rule.{walk_from}
-use Rattle.walk.specs.Tables.{rows_of, Tabled}
 use Rattle.path.specs.Words.{path_words}
-use Rattle.path.specs.Put.{Sized}
 use Rattle.receive.specs.Receive.{Receive, receive}
 use Rattle.receive.specs.Tables.{Said, received_outcome, hops_by, note_stand, walk_said, by_notes, is_path, Foretells}
 use Rattle.receive.specs.declared.Received.{Received}
@@ -21,6 +19,8 @@ use Rattle.tunnel.specs.declared.Plan.{Plan as Planned}
 use Rattle.discovery.specs.Answers.{in_room, output_by, is_list}
 use Rattle.refusal.specs.Refusal.{outcome}
 use Rattle.refusal.specs.declared.Refusal.{Refusal}
+use Rattle.tables.specs.declared.Tables.{Tables}
+use Rattle.tables.specs.Tables.{Sized, Tabled, rows_of}
 
 -- words put from a place on, and the place after them
 pub record Wrote (at : ℕ) (ws out : List ℕ) (r : ℕ) (out' : List ℕ) : Type 0 where
@@ -28,10 +28,10 @@ pub record Wrote (at : ℕ) (ws out : List ℕ) (r : ℕ) (out' : List ℕ) : Ty
   pub whole : out' ≡ take at out ++ ws ++ drop r out
 
 -- the path from a start, where there is one
-pub record PathPut (en ad ro ma : List ℕ) (f : From) (at : ℕ) (out : List ℕ) (r : ℕ) (out' : List ℕ) : Type 0 where
+pub record PathPut (tables : Tables) (f : From) (at : ℕ) (out : List ℕ) (r : ℕ) (out' : List ℕ) : Type 0 where
   pub within : r ≤ length out
   pub long : length out' ≡ length out
-  pub words : Sized en ro → Tabled en ad ro → (hs : List EntryRow) → walk_from (rows_of en ad ro ma) f.stand ≡ value (Some hs) → at + length (path_words f.name hs) ≤ length out → Wrote at (path_words f.name hs) out r out'
+  pub words : Sized tables → Tabled tables → (hs : List EntryRow) → walk_from (rows_of tables) f.stand ≡ value (Some hs) → at + length (path_words f.name hs) ≤ length out → Wrote at (path_words f.name hs) out r out'
 
 -- each path is the walk from where its first hop stands
 unfoldable pub AllWalk : Rows → List Path → Type 0
@@ -43,10 +43,10 @@ Walks x None = 0 ≤ 0
 Walks x (Some t) = AllWalk x t.paths
 
 -- the tunnel that is planned, if there is one
-pub record PlanPut (en ad ro ma : List ℕ) (plan : Result (Option Planned) Refusal) (at : ℕ) (out : List ℕ) (r : ℕ) (out' : List ℕ) : Type 0 where
+pub record PlanPut (tables : Tables) (plan : Result (Option Planned) Refusal) (at : ℕ) (out : List ℕ) (r : ℕ) (out' : List ℕ) : Type 0 where
   pub within : r ≤ length out
   pub long : length out' ≡ length out
-  pub words : Sized en ro → Tabled en ad ro → (o : Option Tunnel) → planned_outcome plan ≡ value (plan_if o) → Walks (rows_of en ad ro ma) o → at + length (tunnels_words (option_to_list o)) ≤ length out
+  pub words : Sized tables → Tabled tables → (o : Option Tunnel) → planned_outcome plan ≡ value (plan_if o) → Walks (rows_of tables) o → at + length (tunnels_words (option_to_list o)) ≤ length out
       → Wrote at (tunnels_words (option_to_list o)) out r out'
 
 -- the words of a plan; none has none
@@ -67,8 +67,8 @@ pub record Marked (ring words : ℕ) (old new : List ℕ) : Type 0 where
   pub marks : (j : ℕ) → get_or new j 0 ≡ 1 → (get_or old j 0 ≡ 1) ⊎ ((j ≡ ring) × (ring < 2047) × (words < 1))
 
 -- a ring that is marked has no tunnel
-pub record Idle (en ad ro ma : List ℕ) (p a : ℕ) (idle : List ℕ) : Type 0 where
-  pub rests : Sized en ro → Tabled en ad ro → p < 65536 → (j : ℕ) → get_or idle (mark_of j) 0 ≡ 1 → one_dma (rows_of en ad ro ma) p a j ≡ value None
+pub record Idle (tables : Tables) (p a : ℕ) (idle : List ℕ) : Type 0 where
+  pub rests : Sized tables → Tabled tables → p < 65536 → (j : ℕ) → get_or idle (mark_of j) 0 ≡ 1 → one_dma (rows_of tables) p a j ≡ value None
 
 -- a number is in a list
 unfoldable pub among : ℕ → List ℕ → Bool
@@ -77,11 +77,11 @@ among v (x ∷ l) = eqb x v || among v l
 
 -- the HopIDs by which entries leave
 unfoldable pub out_hops : List ℕ → List ℕ
-out_hops en = map (λ (e : EntryRow). e.out_hop) (entries_in en)
+out_hops tables.entries.now = map (λ (e : EntryRow). e.out_hop) (entries_in tables.entries.now)
 
 -- the search for a receive path is not refused for a ring that no entry leaves by
-pub record Quiet (en ad ro ma : List ℕ) : Type 0 where
-  pub searched : Tabled en ad ro → (v : ℕ) → among v (out_hops en) ≡ false → (r : Receive) × (receive (rows_of en ad ro ma) v ≡ value r)
+pub record Quiet (tables : Tables) : Type 0 where
+  pub searched : Tabled tables → (v : ℕ) → among v (out_hops tables.entries.now) ≡ false → (r : Receive) × (receive (rows_of tables) v ≡ value r)
 
 -- no entry leaves by a ring, and none stands at it
 pub record Unasked (en : List ℕ) (p a ring : ℕ) : Type 0 where
@@ -106,9 +106,9 @@ pub record Known (found : Result Received Refusal) (noted r : ℕ) : Type 0 wher
   pub known : r < 2048 → (r ≡ noted) × (is_path found ≡ false)
 
 -- fewer than 2,048 notes, with what the search came to, tell of all rings
-pub record Told (en ad ro ma notes : List ℕ) (last : Result Received Refusal) : Type 0 where
-  pub tells : length notes < 2048 → Foretells en ad ro ma notes last
-  pub few : hops_by last ≤ length en
+pub record Told (tables : Tables) (notes : List ℕ) (last : Result Received Refusal) : Type 0 where
+  pub tells : length notes < 2048 → Foretells tables notes last
+  pub few : hops_by last ≤ length tables.entries.now
 
 -- the first note of a path that leaves by a ring, or there is none
 pub record NoteFound (notes : List ℕ) (ring r : ℕ) : Type 0 where
@@ -116,29 +116,29 @@ pub record NoteFound (notes : List ℕ) (ring r : ℕ) : Type 0 where
   pub none_there : length notes ≤ r → (x : Rows) (rest : Outcome Said) → by_notes x ring notes rest ≡ rest
 
 -- what is said of a note's path
-pub record NotePath (en ad ro ma : List ℕ) (ring note : ℕ) (r : Result Received Refusal) : Type 0 where
-  pub says : Tabled en ad ro → received_outcome ring r ≡ walk_said (rows_of en ad ro ma) ring (note_stand note)
-  pub few : hops_by r ≤ length en
+pub record NotePath (tables : Tables) (ring note : ℕ) (r : Result Received Refusal) : Type 0 where
+  pub says : Tabled tables → received_outcome ring r ≡ walk_said (rows_of tables) ring (note_stand note)
+  pub few : hops_by r ≤ length tables.entries.now
 
 -- the words of the tunnels of k rings from 1 on
-pub record Tallies (en ad ro ma : List ℕ) (p a k : ℕ) (r : Result ℕ Refusal) : Type 0 where
-  pub counts : Sized en ro → Tabled en ad ro → p < 65536 → outcome r ≡ bind (rings (rows_of en ad ro ma) p a 1 k) (λ ts. value (length (tunnels_words ts)))
+pub record Tallies (tables : Tables) (p a k : ℕ) (r : Result ℕ Refusal) : Type 0 where
+  pub counts : Sized tables → Tabled tables → p < 65536 → outcome r ≡ bind (rings (rows_of tables) p a 1 k) (λ ts. value (length (tunnels_words ts)))
 
 -- the words of the tunnels of k rings from 1 on stand at the front, where there is room for them
-pub record Drafted (en ad ro ma : List ℕ) (p a k : ℕ) (draft : List ℕ) : Type 0 where
-  pub words : Sized en ro → Tabled en ad ro → p < 65536 → (ts : List Tunnel) → rings (rows_of en ad ro ma) p a 1 k ≡ value ts → length (tunnels_words ts) ≤ length draft → take (length (tunnels_words ts)) draft ≡ tunnels_words ts
+pub record Drafted (tables : Tables) (p a k : ℕ) (draft : List ℕ) : Type 0 where
+  pub words : Sized tables → Tabled tables → p < 65536 → (ts : List Tunnel) → rings (rows_of tables) p a 1 k ≡ value ts → length (tunnels_words ts) ≤ length draft → take (length (tunnels_words ts)) draft ≡ tunnels_words ts
 
 -- the tunnel of a ring, if it has one
-pub record RingPut (en ad ro ma : List ℕ) (p a ring at : ℕ) (out : List ℕ) (r : ℕ) (out' : List ℕ) : Type 0 where
+pub record RingPut (tables : Tables) (p a ring at : ℕ) (out : List ℕ) (r : ℕ) (out' : List ℕ) : Type 0 where
   pub within : r ≤ length out
   pub long : length out' ≡ length out
-  pub words : Sized en ro → Tabled en ad ro → p < 65536 → (o : Option Tunnel) → one_dma (rows_of en ad ro ma) p a ring ≡ value o → at + length (tunnels_words (option_to_list o)) ≤ length out
+  pub words : Sized tables → Tabled tables → p < 65536 → (o : Option Tunnel) → one_dma (rows_of tables) p a ring ≡ value o → at + length (tunnels_words (option_to_list o)) ≤ length out
       → Wrote at (tunnels_words (option_to_list o)) out r out'
 
 -- an output as long as these words
-pub record RingsPut (en ad ro ma : List ℕ) (p a k : ℕ) (out out' : List ℕ) : Type 0 where
+pub record RingsPut (tables : Tables) (p a k : ℕ) (out out' : List ℕ) : Type 0 where
   pub long : length out' ≡ length out
-  pub words : Sized en ro → Tabled en ad ro → p < 65536 → (ts : List Tunnel) → rings (rows_of en ad ro ma) p a 1 k ≡ value ts → length out ≡ length (tunnels_words ts) → out' ≡ tunnels_words ts
+  pub words : Sized tables → Tabled tables → p < 65536 → (ts : List Tunnel) → rings (rows_of tables) p a 1 k ≡ value ts → length out ≡ length (tunnels_words ts) → out' ≡ tunnels_words ts
 
 -- what is answered and written follows what is discovered
 pub record Follows (o : Outcome (Option (List Tunnel))) (out : List ℕ) (r : Result (Option ℕ) Refusal) (out' : List ℕ) : Type 0 where
@@ -153,13 +153,13 @@ pub record Free (out : List ℕ) (r : Result (Option ℕ) Refusal) (out' : List 
   pub long : length out' ≡ length out
 
 -- a plan's tunnel, whatever it is the plan of
-pub record OneAnswered (en ad ro ma : List ℕ) (plan : Result (Option Planned) Refusal) (out : List ℕ) (r : Result (Option ℕ) Refusal) (out' : List ℕ) : Type 0 where
-  pub follows : Sized en ro → Tabled en ad ro → (o : Outcome (Option Tunnel)) → planned_outcome plan ≡ bind o (λ t. value (plan_if t)) → ((t : Option Tunnel) → o ≡ value t → Walks (rows_of en ad ro ma) t) → Follows (bind o alone) out r out'
+pub record OneAnswered (tables : Tables) (plan : Result (Option Planned) Refusal) (out : List ℕ) (r : Result (Option ℕ) Refusal) (out' : List ℕ) : Type 0 where
+  pub follows : Sized tables → Tabled tables → (o : Outcome (Option Tunnel)) → planned_outcome plan ≡ bind o (λ t. value (plan_if t)) → ((t : Option Tunnel) → o ≡ value t → Walks (rows_of tables) t) → Follows (bind o alone) out r out'
   pub free : Free out r out'
 
 -- what f discovers in rows, for a place that a key has room for
-pub record Answered (en ad ro ma : List ℕ) (p : ℕ) (f : Rows → Outcome (Option (List Tunnel))) (out : List ℕ) (r : Result (Option ℕ) Refusal) (out' : List ℕ) : Type 0 where
-  pub follows : Sized en ro → Tabled en ad ro → p < 65536 → Follows (f (rows_of en ad ro ma)) out r out'
+pub record Answered (tables : Tables) (p : ℕ) (f : Rows → Outcome (Option (List Tunnel))) (out : List ℕ) (r : Result (Option ℕ) Refusal) (out' : List ℕ) : Type 0 where
+  pub follows : Sized tables → Tabled tables → p < 65536 → Follows (f (rows_of tables)) out r out'
   pub free : Free out r out'
 
 -- the tunnels of k rings from 1 on, as a list that is there

@@ -38,22 +38,16 @@ fn tunnel_word(kind: TunnelType, closed: bool, paths: u8) -> u32
 
 // Writes a path from a place of the output on; the place after it.
 fn put_start(
-    entries: &[u64],
-    adapters: &[u64],
-    routes: &[u64],
-    marks: &[u64],
+    tables: &Tables,
     start: Start,
     output: &mut [u32],
     at: usize,
 ) -> usize
     requires { at ≤ length output.old }
-    ensures { PathPut entries.now adapters.now routes.now marks.now (from_by start) at output.old result output.new }
+    ensures { PathPut tables.now (from_by start) at output.old result output.new }
 {
     let words = path::put_walk(
-        entries,
-        adapters,
-        routes,
-        marks,
+        tables,
         start.place,
         start.adapter,
         start.hop,
@@ -65,16 +59,13 @@ fn put_start(
 
 // Writes a planned tunnel from a place of the output on; the place after it.
 fn put_plan(
-    entries: &[u64],
-    adapters: &[u64],
-    routes: &[u64],
-    marks: &[u64],
+    tables: &Tables,
     plan: Option<Plan>,
     output: &mut [u32],
     at: usize,
 ) -> usize
     requires { (at ≤ length output.old) × (paths_by (Ok plan) ≤ 3) }
-    ensures { PlanPut entries.now adapters.now routes.now marks.now (Ok plan) at output.old result output.new }
+    ensures { PlanPut tables.now (Ok plan) at output.old result output.new }
 {
     let Some(p) = plan else {
         return at;
@@ -87,15 +78,15 @@ fn put_plan(
     if paths < 1 {
         return at + 1;
     }
-    let a = put_start(entries, adapters, routes, marks, p.first, output, at + 1);
+    let a = put_start(tables, p.first, output, at + 1);
     if paths < 2 {
         return a;
     }
-    let b = put_start(entries, adapters, routes, marks, p.second, output, a);
+    let b = put_start(tables, p.second, output, a);
     if paths < 3 {
         return b;
     }
-    put_start(entries, adapters, routes, marks, p.third, output, b)
+    put_start(tables, p.third, output, b)
 }
 
 // The words of a planned tunnel.
@@ -135,7 +126,7 @@ fn leaves_by(entries: &[u64], hop: u16) -> bool
 
 // Says yes only where the search for a receive path is not refused for a ring that no entry leaves by. It goes alike for all of these, so one is asked: 65,535, which no ring of a survey by our descriptions is.
 fn is_quiet(entries: &[u64], found: Result<Received, Refusal>) -> bool
-    ensures { (ad ro ma : List ℕ) → Receives entries.now ad ro ma 65535 found → result ≡ true → Quiet entries.now ad ro ma }
+    ensures { (tables : Tables) → Receives entries.now tables 65535 found → result ≡ true → Quiet entries.now tables }
 {
     if leaves_by(entries, 65535) {
         return false;
@@ -199,7 +190,7 @@ fn at_rest(
     adapter: u8,
     found: Result<Received, Refusal>,
 ) -> [u8; 2048]
-    ensures { (ad ro ma : List ℕ) → Receives entries.now ad ro ma 65535 found → Idle entries.now ad ro ma place adapter result }
+    ensures { (tables : Tables) → Receives entries.now tables 65535 found → Idle entries.now tables place adapter result }
 {
     if !is_quiet(entries, found) {
         return [0u8; 2048];
@@ -241,18 +232,15 @@ fn find_note(notes: &[u64], ring: u16) -> usize
 
 // The path of a note, which leaves by a ring.
 fn noted_path(
-    entries: &[u64],
-    adapters: &[u64],
-    routes: &[u64],
-    marks: &[u64],
+    tables: &Tables,
     note: u64,
 ) -> Result<Received, Refusal>
-    ensures { (ring : ℕ) → NotePath entries.now adapters.now routes.now marks.now ring note result }
+    ensures { (ring : ℕ) → NotePath tables.now ring note result }
 {
     let place = (note / 1099511627776 % 65536) as usize;
     let adapter = (note / 4294967296 % 256) as u8;
     let hop = (note / 65536 % 65536) as u16;
-    let walked = walk::tally(entries, adapters, routes, marks, place, adapter, hop)?;
+    let walked = walk::tally(tables, place, adapter, hop)?;
     let Some(w) = walked else {
         return Ok(Received::Nothing);
     };
@@ -268,19 +256,16 @@ fn noted_path(
 
 // The receive path of a ring: by notes, where there are fewer than `UNTOLD`, with `last` for the rings that have none; else by a search.
 fn received_by(
-    entries: &[u64],
-    adapters: &[u64],
-    routes: &[u64],
-    marks: &[u64],
+    tables: &Tables,
     ring: u16,
     notes: &[u64],
     last: Result<Received, Refusal>,
 ) -> Result<Received, Refusal>
-    requires { Told entries.now adapters.now routes.now marks.now notes.now last }
-    ensures { Receives entries.now adapters.now routes.now marks.now ring result }
+    requires { Told tables.now notes.now last }
+    ensures { Receives tables.now ring result }
 {
     if UNTOLD <= notes.len() {
-        let searched = receive::receive(entries, adapters, routes, marks, ring);
+        let searched = receive::receive(tables, ring);
         let found = searched.found;
         return found;
     }
@@ -288,26 +273,23 @@ fn received_by(
     if notes.len() <= i {
         return last;
     }
-    noted_path(entries, adapters, routes, marks, notes[i])
+    noted_path(tables, notes[i])
 }
 
 // A ring's tunnel.
 fn plan_ring(
-    entries: &[u64],
-    adapters: &[u64],
-    routes: &[u64],
-    marks: &[u64],
+    tables: &Tables,
     place: usize,
     adapter: u8,
     ring: u16,
     notes: &[u64],
     last: Result<Received, Refusal>,
 ) -> Result<Option<Plan>, Refusal>
-    requires { Told entries.now adapters.now routes.now marks.now notes.now last }
-    ensures { Plans entries.now adapters.now routes.now marks.now place (λ x. one_dma x place adapter ring) result }
+    requires { Told tables.now notes.now last }
+    ensures { Plans tables.now place (λ x. one_dma x place adapter ring) result }
 {
-    let r = received_by(entries, adapters, routes, marks, ring, notes, last);
-    tunnel::one_dma(entries, adapters, routes, marks, place, adapter, ring, r)
+    let r = received_by(tables, ring, notes, last);
+    tunnel::one_dma(tables, place, adapter, ring, r)
 }
 
 // Marks a ring that needs no words, if it has a mark of its own.
@@ -325,10 +307,7 @@ fn mark(idle: &mut [u8; 2048], ring: u32, words: usize)
 
 // The words of the tunnels of rings 1 to `end`, which is left out; the rings that have none are marked, and the words are drafted as far as there is room.
 fn tally_rings(
-    entries: &[u64],
-    adapters: &[u64],
-    routes: &[u64],
-    marks: &[u64],
+    tables: &Tables,
     place: usize,
     adapter: u8,
     end: u32,
@@ -337,9 +316,9 @@ fn tally_rings(
     idle: &mut [u8; 2048],
     draft: &mut [u32],
 ) -> Result<usize, Refusal>
-    requires { (1 ≤ end) × (end ≤ 65536) × Idle entries.now adapters.now routes.now marks.now place adapter idle.old × Told entries.now adapters.now routes.now marks.now notes.now last }
-    ensures tallies { Tallies entries.now adapters.now routes.now marks.now place adapter (end - 1) result × Idle entries.now adapters.now routes.now marks.now place adapter idle.new }
-    ensures drafted { Drafted entries.now adapters.now routes.now marks.now place adapter (end - 1) draft.new }
+    requires { (1 ≤ end) × (end ≤ 65536) × Idle tables.now place adapter idle.old × Told tables.now notes.now last }
+    ensures tallies { Tallies tables.now place adapter (end - 1) result × Idle tables.now place adapter idle.new }
+    ensures drafted { Drafted tables.now place adapter (end - 1) draft.new }
 {
     let mut at: usize = 0;
     let mut need: usize = 0;
@@ -350,12 +329,12 @@ fn tally_rings(
         } else {
             let r = ring as u16;
             let plan = plan_ring(
-                entries, adapters, routes, marks, place, adapter, r, notes, last,
+                tables, place, adapter, r, notes, last,
             )?;
             let words = tally_plan(plan);
             need += words;
             mark(idle, ring, words);
-            at = put_plan(entries, adapters, routes, marks, plan, draft, at);
+            at = put_plan(tables, plan, draft, at);
             ring += 1;
         }
     }
@@ -371,10 +350,7 @@ fn is_idle(idle: &[u8; 2048], ring: u32) -> bool
 
 // Writes the tunnel of a ring from a place of the output on, unless the ring is marked; the place after it.
 fn put_ring(
-    entries: &[u64],
-    adapters: &[u64],
-    routes: &[u64],
-    marks: &[u64],
+    tables: &Tables,
     place: usize,
     adapter: u8,
     ring: u32,
@@ -384,27 +360,24 @@ fn put_ring(
     output: &mut [u32],
     at: usize,
 ) -> usize
-    requires { (ring < 65536) × (at ≤ length output.old) × Idle entries.now adapters.now routes.now marks.now place adapter idle.now × Told entries.now adapters.now routes.now marks.now notes.now last }
-    ensures { RingPut entries.now adapters.now routes.now marks.now place adapter ring at output.old result output.new }
+    requires { (ring < 65536) × (at ≤ length output.old) × Idle tables.now place adapter idle.now × Told tables.now notes.now last }
+    ensures { RingPut tables.now place adapter ring at output.old result output.new }
 {
     if is_idle(idle, ring) {
         return at;
     }
     let r = ring as u16;
     let Ok(plan) = plan_ring(
-        entries, adapters, routes, marks, place, adapter, r, notes, last,
+        tables, place, adapter, r, notes, last,
     ) else {
         return at;
     };
-    put_plan(entries, adapters, routes, marks, plan, output, at)
+    put_plan(tables, plan, output, at)
 }
 
 // Writes the tunnels of rings 1 to `end`, which is left out, until the output is full.
 fn put_rings(
-    entries: &[u64],
-    adapters: &[u64],
-    routes: &[u64],
-    marks: &[u64],
+    tables: &Tables,
     place: usize,
     adapter: u8,
     end: u32,
@@ -413,8 +386,8 @@ fn put_rings(
     idle: &[u8; 2048],
     output: &mut [u32],
 )
-    requires { (1 ≤ end) × (end ≤ 65536) × Idle entries.now adapters.now routes.now marks.now place adapter idle.now × Told entries.now adapters.now routes.now marks.now notes.now last }
-    ensures { RingsPut entries.now adapters.now routes.now marks.now place adapter (end - 1) output.old output.new }
+    requires { (1 ≤ end) × (end ≤ 65536) × Idle tables.now place adapter idle.now × Told tables.now notes.now last }
+    ensures { RingsPut tables.now place adapter (end - 1) output.old output.new }
 {
     let mut at: usize = 0;
     let mut ring: u32 = 1;
@@ -423,7 +396,7 @@ fn put_rings(
             return;
         }
         at = put_ring(
-            entries, adapters, routes, marks, place, adapter, ring, notes, last, idle, output, at,
+            tables, place, adapter, ring, notes, last, idle, output, at,
         );
         ring += 1;
     }
@@ -443,10 +416,7 @@ fn copy(from: &[u32], to: &mut [u32])
 
 // Writes the tunnels of rings 1 to `end`, which is left out: as they were drafted, if there was room for them.
 fn put_tallied(
-    entries: &[u64],
-    adapters: &[u64],
-    routes: &[u64],
-    marks: &[u64],
+    tables: &Tables,
     place: usize,
     adapter: u8,
     end: u32,
@@ -456,8 +426,8 @@ fn put_tallied(
     draft: &[u32],
     output: &mut [u32],
 )
-    requires { (1 ≤ end) × (end ≤ 65536) × Idle entries.now adapters.now routes.now marks.now place adapter idle.now × Drafted entries.now adapters.now routes.now marks.now place adapter (end - 1) draft.now × Told entries.now adapters.now routes.now marks.now notes.now last }
-    ensures { RingsPut entries.now adapters.now routes.now marks.now place adapter (end - 1) output.old output.new }
+    requires { (1 ≤ end) × (end ≤ 65536) × Idle tables.now place adapter idle.now × Drafted tables.now place adapter (end - 1) draft.now × Told tables.now notes.now last }
+    ensures { RingsPut tables.now place adapter (end - 1) output.old output.new }
 {
     let need = output.len();
     if need <= draft.len() {
@@ -465,21 +435,18 @@ fn put_tallied(
         return;
     }
     put_rings(
-        entries, adapters, routes, marks, place, adapter, end, notes, last, idle, output,
+        tables, place, adapter, end, notes, last, idle, output,
     );
 }
 
 // The tunnel of an adapter that has one at most.
 fn put_one(
-    entries: &[u64],
-    adapters: &[u64],
-    routes: &[u64],
-    marks: &[u64],
+    tables: &Tables,
     plan: Option<Plan>,
     output: &mut [u32],
 ) -> Result<Option<usize>, Refusal>
     requires { paths_by (Ok plan) ≤ 3 }
-    ensures { OneAnswered entries.now adapters.now routes.now marks.now (Ok plan) output.old result output.new }
+    ensures { OneAnswered tables.now (Ok plan) output.old result output.new }
 {
     let Some(p) = plan else {
         return Ok(None);
@@ -489,10 +456,7 @@ fn put_one(
         return Err(Refusal::Short(words));
     }
     put_plan(
-        entries,
-        adapters,
-        routes,
-        marks,
+        tables,
         plan,
         &mut output[..words],
         0,
@@ -502,10 +466,7 @@ fn put_one(
 
 // The tunnels of rings 1 to `end`, which is left out, by what the search for ring 65,535 noted and came to.
 fn put_noted(
-    entries: &[u64],
-    adapters: &[u64],
-    routes: &[u64],
-    marks: &[u64],
+    tables: &Tables,
     place: usize,
     adapter: u8,
     end: u32,
@@ -513,13 +474,13 @@ fn put_noted(
     found: Result<Received, Refusal>,
     output: &mut [u32],
 ) -> Result<Option<usize>, Refusal>
-    requires { (1 ≤ end) × (end ≤ 65536) × Told entries.now adapters.now routes.now marks.now notes.now found × Receives entries.now adapters.now routes.now marks.now 65535 found }
-    ensures { Answered entries.now adapters.now routes.now marks.now place (λ x. ring_list x place adapter (end - 1)) output.old result output.new }
+    requires { (1 ≤ end) × (end ≤ 65536) × Told tables.now notes.now found × Receives tables.now 65535 found }
+    ensures { Answered tables.now place (λ x. ring_list x place adapter (end - 1)) output.old result output.new }
 {
     let mut idle = at_rest(entries, place, adapter, found);
     let mut draft = [0u32; 256]; // room for the words of 36 rings with two paths of one hop each
     match tally_rings(
-        entries, adapters, routes, marks, place, adapter, end, notes, found, &mut idle, &mut draft,
+        tables, place, adapter, end, notes, found, &mut idle, &mut draft,
     ) {
         Err(refusal) => Err(refusal),
         Ok(need) => {
@@ -527,10 +488,7 @@ fn put_noted(
                 return Err(Refusal::Short(need));
             }
             put_tallied(
-                entries,
-                adapters,
-                routes,
-                marks,
+                tables,
                 place,
                 adapter,
                 end,
@@ -547,27 +505,21 @@ fn put_noted(
 
 // The same by a search with room for many notes: some 32 KiB of stack, which most surveys needn't pay for.
 fn put_far(
-    entries: &[u64],
-    adapters: &[u64],
-    routes: &[u64],
-    marks: &[u64],
+    tables: &Tables,
     place: usize,
     adapter: u8,
     end: u32,
     output: &mut [u32],
 ) -> Result<Option<usize>, Refusal>
     requires { (1 ≤ end) × (end ≤ 65536) }
-    ensures { Answered entries.now adapters.now routes.now marks.now place (λ x. ring_list x place adapter (end - 1)) output.old result output.new }
+    ensures { Answered tables.now place (λ x. ring_list x place adapter (end - 1)) output.old result output.new }
 {
-    let searched = receive::receive_far(entries, adapters, routes, marks, 65535);
+    let searched = receive::receive_far(tables, 65535);
     let found = searched.found;
     let notes = searched.notes;
     let count = known_notes(found, searched.noted);
     put_noted(
-        entries,
-        adapters,
-        routes,
-        marks,
+        tables,
         place,
         adapter,
         end,
@@ -579,10 +531,7 @@ fn put_far(
 
 // The same by a search with room for few notes, if they tell of all rings; if not, or where `far` says so, by one with room for many. It calls itself before it calls `put_far`: the compiler puts no large room into the frame of a function that calls itself. Otherwise the room of `put_far` would be in the frame of every answer.
 fn put_searched(
-    entries: &[u64],
-    adapters: &[u64],
-    routes: &[u64],
-    marks: &[u64],
+    tables: &Tables,
     place: usize,
     adapter: u8,
     end: u32,
@@ -590,27 +539,24 @@ fn put_searched(
     output: &mut [u32],
 ) -> Result<Option<usize>, Refusal>
     requires { (1 ≤ end) × (end ≤ 65536) }
-    ensures { Answered entries.now adapters.now routes.now marks.now place (λ x. ring_list x place adapter (end - 1)) output.old result output.new }
+    ensures { Answered tables.now place (λ x. ring_list x place adapter (end - 1)) output.old result output.new }
 {
     if far {
         return put_far(
-            entries, adapters, routes, marks, place, adapter, end, output,
+            tables, place, adapter, end, output,
         );
     }
-    let searched = receive::receive(entries, adapters, routes, marks, 65535);
+    let searched = receive::receive(tables, 65535);
     let found = searched.found;
     let notes = searched.notes;
     let count = known_notes(found, searched.noted);
     if 63 < count {
         return put_searched(
-            entries, adapters, routes, marks, place, adapter, end, true, output,
+            tables, place, adapter, end, true, output,
         );
     }
     put_noted(
-        entries,
-        adapters,
-        routes,
-        marks,
+        tables,
         place,
         adapter,
         end,
@@ -622,16 +568,13 @@ fn put_searched(
 
 // The tunnels of the rings of a host interface.
 fn put_dma(
-    entries: &[u64],
-    adapters: &[u64],
-    routes: &[u64],
-    marks: &[u64],
+    tables: &Tables,
     place: usize,
     adapter: u8,
     most: Result<Option<u32>, FieldError>,
     output: &mut [u32],
 ) -> Result<Option<usize>, Refusal>
-    ensures { Answered entries.now adapters.now routes.now marks.now place (λ x. dma_by x place adapter (field_at (adapter_site place adapter) most)) output.old result output.new }
+    ensures { Answered tables.now place (λ x. dma_by x place adapter (field_at (adapter_site place adapter) most)) output.old result output.new }
 {
     match most {
         Ok(None) => Ok(None),
@@ -639,7 +582,7 @@ fn put_dma(
         Ok(Some(largest)) => {
             let end = rings_end(largest);
             put_searched(
-                entries, adapters, routes, marks, place, adapter, end, false, output,
+                tables, place, adapter, end, false, output,
             )
         }
     }
@@ -647,41 +590,35 @@ fn put_dma(
 
 // The tunnel of an adapter that has one at most, by the number of its kind.
 fn plan_of(
-    entries: &[u64],
-    adapters: &[u64],
-    routes: &[u64],
-    marks: &[u64],
+    tables: &Tables,
     place: usize,
     adapter: u8,
     kind: u32,
 ) -> Result<Option<Plan>, Refusal>
-    ensures { Plans entries.now adapters.now routes.now marks.now place (λ x. tunnel_by x place adapter kind) result }
+    ensures { Plans tables.now place (λ x. tunnel_by x place adapter kind) result }
 {
     if kind == 4 {
-        return tunnel::display_port(entries, adapters, routes, marks, place, adapter);
+        return tunnel::display_port(tables, place, adapter);
     }
     if kind == 6 {
         let pcie = TunnelType::Pcie;
-        return tunnel::down_and_up(entries, adapters, routes, marks, place, adapter, pcie, 5, 6);
+        return tunnel::down_and_up(tables, place, adapter, pcie, 5, 6);
     }
     if kind == 8 {
         let usb3 = TunnelType::Usb3;
-        return tunnel::down_and_up(entries, adapters, routes, marks, place, adapter, usb3, 0, 1);
+        return tunnel::down_and_up(tables, place, adapter, usb3, 0, 1);
     }
     Ok(None)
 }
 
 // By the adapter's kind; a disabled adapter or one of another kind has none, and a host interface is always enabled.
 fn of_kind(
-    entries: &[u64],
-    adapters: &[u64],
-    routes: &[u64],
-    marks: &[u64],
+    tables: &Tables,
     place: usize,
     facts: Facts,
     output: &mut [u32],
 ) -> Result<Option<usize>, Refusal>
-    ensures { Answered entries.now adapters.now routes.now marks.now place (λ x. discover x place (facts_row place facts)) output.old result output.new }
+    ensures { Answered tables.now place (λ x. discover x place (facts_row place facts)) output.old result output.new }
 {
     let number = facts.number;
     let kind = facts.kind;
@@ -689,28 +626,25 @@ fn of_kind(
     if code == 3 {
         let most = facts.max_hop;
         return put_dma(
-            entries, adapters, routes, marks, place, number, most, output,
+            tables, place, number, most, output,
         );
     }
     let state = facts.state;
     if usb4::state_number(state) != 2 {
         return Ok(None);
     }
-    let plan = plan_of(entries, adapters, routes, marks, place, number, code)?;
-    put_one(entries, adapters, routes, marks, plan, output)
+    let plan = plan_of(tables, place, number, code)?;
+    put_one(tables, plan, output)
 }
 
 // The tunnels from an adapter of the device at a place: how many words they have, or the words needed (2); or no list.
 pub fn discover_in(
-    entries: &[u64],
-    adapters: &[u64],
-    routes: &[u64],
-    marks: &[u64],
+    tables: &Tables,
     place: usize,
     adapter: u8,
     output: &mut [u32],
 ) -> Result<Option<usize>, Refusal>
-    ensures { Discovered entries.now adapters.now routes.now marks.now place adapter output.old result output.new }
+    ensures { Discovered tables.now place adapter output.old result output.new }
 {
     if MOST_ENTRIES < entries.len() {
         return Ok(None);
@@ -718,11 +652,11 @@ pub fn discover_in(
     if MOST_DEVICES < routes.len() {
         return Ok(None);
     }
-    let Some(_) = routers::find_device(routes, marks, place) else {
+    let Some(_) = routers::find_device(tables, place) else {
         return Err(Refusal::Missing);
     };
     let Some(facts) = search::find_adapter(adapters, place, adapter) else {
         return Err(Refusal::Missing);
     };
-    of_kind(entries, adapters, routes, marks, place, facts, output)
+    of_kind(tables, place, facts, output)
 }

@@ -16,6 +16,7 @@ use Rattle.refusal.specs.declared.Fault.{Fault}
 use Rattle.refusal.specs.declared.Fault.TheVariants.{NoParentRoute, NoDownstreamRoute, NoOutAdapter}
 use Rattle.usb4.specs.Numbers.{type_number}
 use Rattle.usb4.specs.declared.AdapterType.{AdapterType}
+use Rattle.usb4.specs.declared.AdapterType.TheVariants as type
 use Rattle.route.specs.Route.{upstream_route, downstream_route, downstream_adapter}
 use Rattle.adapter.specs.Adapter.{AdapterRow, adapter_site, is_lane}
 use Rattle.tables.specs.Rows.{EntryRow, DeviceRow, Rows, adapter_in, device_in, is_router, router_from}
@@ -25,17 +26,30 @@ use Rattle.search.specs.Lanes.{lane_if, LaneSought}
 use Rattle.load.specs.Answers.{present, asked_device}
 use Rattle.fabric.specs.Links.{is_upstream, upstream_route_of, downstream_route_of, route_or}
 use Rattle.fabric.specs.Fabric.{Way, Way.on, Way.last, Way.dropped, stand_by, up_by, arrive_up, down_by, arrive_down, to_device, to_router, to_route, leads_from, leads_by, leads}
-use Rattle.fabric.specs.Tables.{InOrder, rows_with}
+use Rattle.tables.specs.declared.Tables.{Tables}
+use Rattle.tables.specs.Tables.{InOrder, rows_of}
 
 -- ---- routes
 
-pub lane_by_lem : (k : AdapterType) (n : ℕ) → n ≡ type_number k → n ≡ 2 → is_lane k ≡ true
+-- an adapter's kind is a lane's, or not
+pub lane_kind : (k : AdapterType) → k ≡ type.Lane → is_lane k ≡ true
 unfolding is_lane
-lane_by_lem k n e f = eq-eqb _ _ (sym e ∙ f)
+lane_kind k e = ap (λ (t : AdapterType). eqb (type_number t) 2) e
 
-pub no_lane_by : (k : AdapterType) (n : ℕ) → n ≡ type_number k → (n ≡ 2 → ⊥) → is_lane k ≡ false
-unfolding is_lane
-no_lane_by k n e f = ne_eqb _ _ (λ g. f (e ∙ g))
+pub no_lane_kind : (k : AdapterType) → (k ≡ type.Lane → ⊥) → is_lane k ≡ false
+unfolding is_lane type_number
+no_lane_kind type.Inactive n = refl
+no_lane_kind type.Lane n = absurd (n refl)
+no_lane_kind type.HostInterface n = refl
+no_lane_kind type.DisplayPortIn n = refl
+no_lane_kind type.DisplayPortOut n = refl
+no_lane_kind type.PcieDown n = refl
+no_lane_kind type.PcieUp n = refl
+no_lane_kind type.Usb3Down n = refl
+no_lane_kind type.Usb3Up n = refl
+no_lane_kind type.Usb3GenTDown n = refl
+no_lane_kind type.Usb3GenTUp n = refl
+no_lane_kind type.Unknown n = refl
 
 module _ (p : ℕ) (d : DeviceRow) (x : AdapterRow) where
   pub up_no_lane : is_lane x.kind ≡ false → value None ≡ upstream_route_of p d x
@@ -57,10 +71,6 @@ module _ (p : ℕ) (d : DeviceRow) (x : AdapterRow) where
   pub down_route : is_lane x.kind ≡ true → (f : Option ℕ) → downstream_route d.route x.number ≡ f → route_or (NoDownstreamRoute (adapter_site p x.number)) f ≡ downstream_route_of p d x
   unfolding downstream_route_of
   down_route e f h = rw (e, h) refl
-
--- what follows a route that was sought
-pub by_route : {B : Type 0} (fault : Fault) (k : Option ℕ → Outcome B) (r f o : Option ℕ) → r ≡ f → r ≡ o → bind (route_or fault f) k ≡ bind (route_or fault o) k
-by_route fault k r f o e g = ap (λ z. bind (route_or fault z) k) (sym e ∙ g)
 
 -- ---- devices of tables
 
@@ -88,11 +98,11 @@ pub router_below : (ro ma : List ℕ) (domain route q : ℕ) → router_from 0 (
 router_below ro ma domain route q e = omega (arith, router_from_lem 0 ro ma domain route q e)
 
 -- in tables that are in order, such a place fits a key
-pub device_fits : (ad ro ma : List ℕ) (q : ℕ) (d : DeviceRow) → InOrder ad ro → Some d ≡ device_in (devices_in ro ma) q → q < 65536
-device_fits ad ro ma q d k e = omega (arith, k.devices, device_below ro ma q d (sym e))
+pub device_fits : (tables : Tables) (q : ℕ) (d : DeviceRow) → InOrder tables → Some d ≡ device_in (devices_in tables.routes.now tables.marks.now) q → q < 65536
+device_fits tables q d k e = omega (arith, k.devices, device_below tables.routes.now tables.marks.now q d (sym e))
 
-pub router_fits : (ad ro ma : List ℕ) (domain route q : ℕ) → InOrder ad ro → Some q ≡ router_from 0 (devices_in ro ma) domain route → q < 65536
-router_fits ad ro ma domain route q k e = omega (arith, k.devices, router_below ro ma domain route q (sym e))
+pub router_fits : (tables : Tables) (domain route q : ℕ) → InOrder tables → Some q ≡ router_from 0 (devices_in tables.routes.now tables.marks.now) domain route → q < 65536
+router_fits tables domain route q k e = omega (arith, k.devices, router_below tables.routes.now tables.marks.now domain route q (sym e))
 
 -- ---- where a hop leads
 
@@ -187,35 +197,47 @@ module _ (x : Rows) (p o : ℕ) where
   leads_there d y e g = ap (leads_by x p o d) g ∙ ap (λ (z : Option DeviceRow). bind (present z) (λ v. leads_by x p o v (adapter_in x.adapters p o))) e
 
 -- from a device by an out adapter that was sought
-module _ (es : List EntryRow) (ad ro ma : List ℕ) (p o : ℕ) (k : InOrder ad ro) (d : DeviceRow) (there : Some d ≡ device_in (devices_in ro ma) p) (r : Option Bool) (h : LaneSought ad p o r) where
+module _ (tables : Tables) (p o : ℕ) (k : InOrder tables) (d : DeviceRow) (there : Some d ≡ device_in (devices_in tables.routes.now tables.marks.now) p) (r : Option Bool) (h : LaneSought tables.adapters.now p o r) where
   abbrev at : Rows
-  at = rows_with es ad ro ma
+  at = rows_of tables
 
-  is_lane_lem : r ≡ lane_if (adapter_in (adapters_in ad) p o)
-  is_lane_lem = h.first (device_fits ad ro ma p d k there) k.adapters
+  is_lane_lem : r ≡ lane_if (adapter_in (adapters_in tables.adapters.now) p o)
+  is_lane_lem = h.first (device_fits tables p d k there) k.adapters
 
   pub leads_nowhere : r ≡ None → refusal_of (NoOutAdapter (adapter_site p o)) ≡ leads at p o
-  unfolding rows_with leads_by
-  leads_nowhere e = leads_there at p o d None there (lane_none (adapter_in (adapters_in ad) p o) (sym (e) ∙ is_lane_lem))
+  unfolding rows_of leads_by
+  leads_nowhere e = leads_there at p o d None there (lane_none (adapter_in (adapters_in tables.adapters.now) p o) (sym (e) ∙ is_lane_lem))
 
   pub leads_other : r ≡ (Some false) → value last ≡ leads at p o
-  unfolding rows_with leads_by
-  leads_other e = let y = lane_some (adapter_in (adapters_in ad) p o) false (sym (e) ∙ is_lane_lem) in from_other at p d y.0 y.2 ∙ leads_there at p o d (Some y.0) there y.1
+  unfolding rows_of leads_by
+  leads_other e = let y = lane_some (adapter_in (adapters_in tables.adapters.now) p o) false (sym (e) ∙ is_lane_lem) in from_other at p d y.0 y.2 ∙ leads_there at p o d (Some y.0) there y.1
 
   module _ (e : r ≡ (Some true)) where
-    lane_is : (z : AdapterRow) × (Some z ≡ adapter_in (adapters_in ad) p o) × (is_lane z.kind ≡ true)
-    lane_is = lane_some (adapter_in (adapters_in ad) p o) true (sym (e) ∙ is_lane_lem)
+    lane_is : (z : AdapterRow) × (Some z ≡ adapter_in (adapters_in tables.adapters.now) p o) × (is_lane z.kind ≡ true)
+    lane_is = lane_some (adapter_in (adapters_in tables.adapters.now) p o) true (sym (e) ∙ is_lane_lem)
 
     -- the out adapter's number is the one that is asked for
     by_number : (P : ℕ → Type 0) → P lane_is.0.number → P o
-    by_number P = subst P (has_number (adapters_in ad) p o lane_is.0 (sym lane_is.1))
+    by_number P = subst P (has_number (adapters_in tables.adapters.now) p o lane_is.0 (sym lane_is.1))
 
     from_lane : leads_from at p d lane_is.0 ≡ leads at p o
-    unfolding rows_with leads_by
+    unfolding rows_of leads_by
     from_lane = leads_there at p o d (Some lane_is.0) there lane_is.1
 
-    pub leads_by_up : is_upstream d.upstream o ≡ true → bind (route_or (NoParentRoute (adapter_site p o)) (upstream_route d.route)) (λ r. to_route at d r (arrive_up at d)) ≡ leads at p o
-    leads_by_up g = by_number (λ n. is_upstream d.upstream n ≡ true → bind (route_or (NoParentRoute (adapter_site p n)) (upstream_route d.route)) (λ r. to_route at d r (arrive_up at d)) ≡ leads at p o) (λ q. from_up at p d lane_is.0 lane_is.2 q ∙ from_lane) g
+    pub leads_lane : lane_leads at p d o ≡ leads at p o
+    unfolding lane_leads
+    leads_lane = by_number (λ n. lane_leads at p d n ≡ leads at p o) (go (is_upstream d.upstream lane_is.0.number) refl ∙ from_lane)
+      where
+        go : (b : Bool) → is_upstream d.upstream lane_is.0.number ≡ b → lane_leads at p d lane_is.0.number ≡ leads_from at p d lane_is.0
+        go true g = rw g (from_up at p d lane_is.0 lane_is.2 g)
+        go false g = rw g (from_down at p d lane_is.0 lane_is.2 g)
 
-    pub leads_by_down : is_upstream d.upstream o ≡ false → bind (route_or (NoDownstreamRoute (adapter_site p o)) (downstream_route d.route o)) (λ r. to_route at d r (arrive_down at)) ≡ leads at p o
-    leads_by_down g = by_number (λ n. is_upstream d.upstream n ≡ false → bind (route_or (NoDownstreamRoute (adapter_site p n)) (downstream_route d.route n)) (λ r. to_route at d r (arrive_down at)) ≡ leads at p o) (λ q. from_down at p d lane_is.0 lane_is.2 q ∙ from_lane) g
+-- what `?` makes of a route that is missing, and of one that is there
+module _ (x : Rows) (p : ℕ) (d : DeviceRow) (n : ℕ) where
+  pub lane_up : is_upstream d.upstream n ≡ true → (o : Option ℕ) → upstream_route d.route ≡ o → bind (route_or (NoParentRoute (adapter_site p n)) o) (λ r. to_route x d r (arrive_up x d)) ≡ lane_leads x p d n
+  unfolding lane_leads
+  lane_up g o e = rw (g, e) refl
+
+  pub lane_down : is_upstream d.upstream n ≡ false → (o : Option ℕ) → downstream_route d.route n ≡ o → bind (route_or (NoDownstreamRoute (adapter_site p n)) o) (λ r. to_route x d r (arrive_down x)) ≡ lane_leads x p d n
+  unfolding lane_leads
+  lane_down g o e = rw (g, e) refl

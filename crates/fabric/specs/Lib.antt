@@ -1,3 +1,4 @@
+use Rattle.tables.specs.declared.Tables.{Tables}
 pub mod Links
 pub mod Fabric
 pub mod Tables

@@ -1,22 +1,18 @@
 -- Where a hop leads, on tables. Assumes nothing.
-use Rattle.std.specs.Prelude.{Result, Ok, Err, ℕ, ◌≤◌, ◌≡◌, List, length}
-use Rattle.refusal.specs.Outcome.{Outcome, value}
-use Rattle.tables.specs.Rows.{EntryRow, Rows}
-use Rattle.tables.specs.Packed.{adapters_in, devices_in, adapter_unit, Sorted}
-use Rattle.refusal.specs.Refusal.{refused_by}
-use Rattle.refusal.specs.declared.Refusal.{Refusal}
-use Rattle.fabric.specs.Fabric.{Way, Way.on, Way.last, Way.dropped}
+use Rattle.std.specs.Prelude.{Result, Ok, Err, ℕ, ◌≡◌, cond}
+use Rattle.refusal.specs.Outcome.{Outcome, value, bind}
+use Rattle.refusal.specs.Refusal.{refused_by, of_walk}
+use Rattle.refusal.specs.declared.WalkError.{WalkError}
+use Rattle.refusal.specs.declared.Fault.TheVariants.{NoParentRoute, NoDownstreamRoute}
+use Rattle.route.specs.Route.{upstream_route, downstream_route}
+use Rattle.adapter.specs.Adapter.{adapter_site}
+use Rattle.tables.specs.Rows.{DeviceRow, Rows}
+use Rattle.tables.specs.Tables.{InOrder, rows_of}
+use Rattle.tables.specs.declared.Tables.{Tables}
+use Rattle.fabric.specs.Links.{is_upstream, route_or}
+use Rattle.fabric.specs.Fabric.{Way, Way.on, Way.last, Way.dropped, to_route, arrive_up, arrive_down}
 use Rattle.fabric.specs.declared.Next.{Next}
 use Rattle.fabric.specs.declared.Next.TheVariants as next
-
--- the rows of tables, with any entries: where a hop leads, they play no part
-unfoldable pub rows_with : List EntryRow → List ℕ → List ℕ → List ℕ → Rows
-rows_with es ad ro ma = record { entries = es; adapters = adapters_in ad; devices = devices_in ro ma }
-
--- adapters in order, and no more devices than a key has room for
-pub record InOrder (ad ro : List ℕ) : Type 0 where
-  pub adapters : Sorted adapter_unit ad
-  pub devices : length ro ≤ 65536
 
 -- where a walk goes, as the definition says it
 abbrev pub way_of : Next → Way
@@ -25,10 +21,17 @@ way_of next.Last = last
 way_of next.Dropped = dropped
 
 -- document 01's number and values for what is answered
-unfoldable pub next_outcome : Result Next Refusal → Outcome Way
+unfoldable pub next_outcome : Result Next WalkError → Outcome Way
 next_outcome (Ok n) = value (way_of n)
-next_outcome (Err r) = refused_by r
+next_outcome (Err e) = refused_by (of_walk e)
 
--- In tables that are in order it is what f says of their rows. In any others it is free.
-pub record LeadsTo (ad ro ma : List ℕ) (f : Rows → Outcome Way) (r : Result Next Refusal) : Type 0 where
-  pub leads_to : InOrder ad ro → (es : List EntryRow) → next_outcome r ≡ f (rows_with es ad ro ma)
+-- In tables that are in order it is what f says of their rows. In any others it is free, but that it is a fault or 14.
+pub record LeadsTo (tables : Tables) (f : Rows → Outcome Way) (r : Result Next WalkError) : Type 0 where
+  pub leads_to : InOrder tables → next_outcome r ≡ f (rows_of tables)
+
+-- from lane n of a router d: up where it is the upstream adapter, or 11; else down, or 12
+unfoldable pub lane_leads : Rows → ℕ → DeviceRow → ℕ → Outcome Way
+lane_leads x p d n =
+    cond (is_upstream d.upstream n)
+    (bind (route_or (NoParentRoute (adapter_site p n)) (upstream_route d.route)) (λ o. to_route x d o (arrive_up x d)))
+    (bind (route_or (NoDownstreamRoute (adapter_site p n)) (downstream_route d.route n)) (λ o. to_route x d o (arrive_down x)))

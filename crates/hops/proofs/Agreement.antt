@@ -10,7 +10,6 @@ use lib.ListN.{length}
 use borrow.Author.Tests.{le-ltb, lt-ltb, ltb-false}
 use Rattle.refusal.specs.Outcome.{Outcome, refused, value, bind}
 use Rattle.tables.specs.Rows.{EntryRow}
-use Rattle.walk.specs.Walking.{Stand}
 use Rattle.walks.specs.Calls.{single, path_answer, walk_answer, WalkDone}
 use Rattle.walk.specs.Rule.{in_room}
 use Rattle.path.specs.Words.{words_needed}
@@ -21,6 +20,7 @@ use Rattle.hops.specs.declared.Hop.{Hop}
 use Rattle.hops.proofs.Laws.{room_some, path_told, path_filled}
 use Rattle.refusal.specs.Refusal.{outcome}
 use Rattle.refusal.specs.declared.Refusal.{Refusal}
+use Rattle.tables.specs.declared.Stand.{Stand}
 
 module _ (t v : List ℕ) (s : Stand) (out : List ℕ) (r : Result (Option ℕ) Refusal) (out' : List ℕ) (w : WalkDone t v s out r out') (old : List Hop) (a : Result (Option ℕ) Refusal) (old' : List Hop) (d : HopsDone t v s old a old') where
   module _ (n m : ℕ) (g : r ≡ Ok (Some n)) (f : a ≡ Ok (Some m)) where

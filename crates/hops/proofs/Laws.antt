@@ -16,7 +16,7 @@ use Rattle.load.specs.Answers.{asked_adapter}
 use Rattle.refusal.specs.Refusal.{refused_by}
 use Rattle.refusal.specs.declared.Refusal.{Refusal}
 use Rattle.orbit.specs.Walk.{hops_n}
-use Rattle.walk.specs.Walking.{Stand, walk_on}
+use Rattle.walk.specs.Walking.{walk_on}
 use Rattle.walk.specs.Rule.{walk_from, in_room, PathRule, WalkRule}
 use Rattle.walk.proofs.Laws.{walk_ends, Hopped, hopped, path_rule}
 use Rattle.path.specs.Words.{words_needed, with_path, output_by}
@@ -31,6 +31,7 @@ use Rattle.hops.specs.declared.Hop.{Hop}
 use Rattle.hops.proofs.Words.{Path, walk_path, filled_path}
 use Rattle.refusal.specs.Refusal.{outcome}
 use Rattle.refusal.specs.declared.Refusal.TheVariants as refusal
+use Rattle.tables.specs.declared.Stand.{Stand}
 
 -- ---- what the room makes of a walk
 

@@ -15,14 +15,16 @@ use Rattle.tables.specs.Rows.{EntryRow, Rows, entry_in}
 use Rattle.load.specs.Loading.{valid_entries, loaded}
 use Rattle.orbit.specs.Walk.{Spot, Spot.stand, Spot.ended, Spot.stopped, walk_n, hops_n, hop_at as hop_here}
 use Rattle.orbit.proofs.Orbit.{ends_within}
-use Rattle.walk.specs.Walking.{Stand, End, walk_on}
+use Rattle.walk.specs.Walking.{End, walk_on}
 use Rattle.walk.specs.Rule.{walk_from}
 use Rattle.walk.proofs.Laws.{ranked, Hopped, hopped}
 use Rattle.path.specs.Words.{hop_words, hops_words, path_words, words_needed, with_path}
 use Rattle.hops.specs.Records.{record_of, with_records}
 use Rattle.hops.specs.Records.{hop_at, filled}
 use Rattle.hops.specs.declared.Hop.{Hop}
-use Rattle.hops.proofs.Bounds.{Fits, AllFit, fit_append, entries_fit, entries_few}
+use Rattle.hops.proofs.Bounds.{AllFit, fit_append, entries_fit, entries_few}
+use Rattle.tables.specs.declared.Stand.{Stand}
+use Rattle.tables.specs.Tables.{Fits}
 
 -- ---- a walk's hops are entries
 

@@ -5,7 +5,6 @@ use Rattle.adapter.specs.Adapter.{AdapterRow}
 use Rattle.tables.specs.Rows.{Rows}
 use Rattle.load.specs.Loading.{loaded}
 use Rattle.load.specs.Answers.{asked_adapter}
-use Rattle.walk.specs.Walking.{Stand}
 use Rattle.walk.specs.Rule.{in_room, WalkRule}
 use Rattle.walks.specs.Calls.{path_answer}
 use Rattle.hops.specs.Records.{records_needed, with_records, records_by}
@@ -13,6 +12,7 @@ use Rattle.path.specs.Put.{is_path}
 use Rattle.hops.specs.declared.Hop.{Hop}
 use Rattle.refusal.specs.Refusal.{outcome}
 use Rattle.refusal.specs.declared.Refusal.{Refusal}
+use Rattle.tables.specs.declared.Stand.{Stand}
 
 unfoldable pub hops_answer : List ℕ → List ℕ → Stand → ℕ → Outcome (Option ℕ)
 hops_answer t v s room = bind (path_answer t v s) (in_room records_needed room)

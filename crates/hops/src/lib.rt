@@ -2,7 +2,6 @@
 #![tactic(auto)]
 
 ghost use Rattle.std.specs.Prelude.{◌≡◌, ◌/◌, ◌-◌, ◌≤◌, ◌<◌, ◌^◌, length};
-ghost use Rattle.walk.specs.Walking.{Stand};
 ghost use Rattle.hops.specs.Calls.{HopsDone};
 ghost use Rattle.hops.specs.Records.{hop_at, filled};
 ghost use Rattle.hops.specs.Work.{Ready};

@@ -20,7 +20,6 @@ use Rattle.load.specs.Answers.{loaded_rows, UsableBy, present}
 use Rattle.load.specs.declared.Loaded.{Loaded}
 use Rattle.load.proofs.Result.{usable}
 use Rattle.devices.proofs.Laws.{asked, place_fits}
-use Rattle.fabric.specs.Tables.{rows_with}
 use Rattle.fabric.specs.Links.{route_or, upstream_route_of}
 use Rattle.parents.specs.Parents.{router_at, parent_by, upstream_in, router_parent, is_xdomain, xdomain_parent, parent_of, parent_answer}
 use Rattle.parents.specs.Tables.{ParentIs}
@@ -28,6 +27,7 @@ use Rattle.refusal.specs.Refusal.{outcome, field_at}
 use Rattle.refusal.specs.declared.Refusal.{Refusal}
 use Rattle.refusal.specs.declared.FieldError.{FieldError}
 use Rattle.load.specs.Answers.{counted}
+use Rattle.tables.specs.Tables.{rows_of}
 
 -- a router's, by what its upstream adapter is, by whether that adapter is there, and by the route before it
 module _ (x : Rows) (p : ℕ) (d : DeviceFacts) where
@@ -66,7 +66,7 @@ module _ (x : Rows) (p : ℕ) (d : DeviceRow) where
 pub parent_asked : (l : Loaded) (t s : List ℕ) (e a d p : ℕ) (x : DeviceRow) (r : Result (Option ℕ) Refusal)
     → loaded_rows l ≡ loaded t s → l.answer ≡ counted e a d → UsableBy l l.answer → Some x ≡ device_in (devices_in (take d l.routes) (take d l.marks)) p
     → ParentIs (take a l.adapters) (take d l.routes) (take d l.marks) p (λ y. parent_of y p x) r → outcome r ≡ parent_answer t s p
-unfolding parent_answer present bind rows_with
+unfolding parent_answer present bind rows_of
 parent_asked l t s e a d p x r same g v f h = let u = usable l e a d g v in
     h.is (record { adapters = u.adapter_order; devices = omega (arith, length-take d l.routes, u.devices) }) (place_fits l e a d p x u f) (entries_in (take e l.entries))
     ∙ asked l t s e a d p (λ y z. parent_of y p z) (Some x) same g f

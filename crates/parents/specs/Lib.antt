@@ -1,2 +1,3 @@
+use Rattle.tables.specs.declared.Tables.{Tables}
 pub mod Parents
 pub mod Tables

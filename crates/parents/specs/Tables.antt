@@ -2,10 +2,11 @@
 use Rattle.std.specs.Prelude.{ℕ, ◌<◌, ◌≡◌, List, Result, Option}
 use Rattle.refusal.specs.Outcome.{Outcome}
 use Rattle.tables.specs.Rows.{EntryRow, Rows}
-use Rattle.fabric.specs.Tables.{rows_with, InOrder}
 use Rattle.refusal.specs.Refusal.{outcome}
 use Rattle.refusal.specs.declared.Refusal.{Refusal}
+use Rattle.tables.specs.declared.Tables.{Tables}
+use Rattle.tables.specs.Tables.{InOrder, rows_of}
 
 -- In tables in order, for a place that a key has room for, it is what f says of their rows. In any others it is free.
-pub record ParentIs (ad ro ma : List ℕ) (p : ℕ) (f : Rows → Outcome (Option ℕ)) (r : Result (Option ℕ) Refusal) : Type 0 where
-  pub is : InOrder ad ro → p < 65536 → (es : List EntryRow) → outcome r ≡ f (rows_with es ad ro ma)
+pub record ParentIs (tables : Tables) (p : ℕ) (f : Rows → Outcome (Option ℕ)) (r : Result (Option ℕ) Refusal) : Type 0 where
+  pub is : InOrder tables → p < 65536 → outcome r ≡ f (rows_of tables)

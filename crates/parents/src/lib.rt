@@ -6,75 +6,60 @@ ghost use Rattle.refusal.specs.Outcome.{value};
 ghost use Rattle.tables.specs.Packed.{devices_in};
 ghost use Rattle.tables.specs.Rows.{EntryRow, router_from};
 ghost use Rattle.tables.specs.Found.{device_row};
-ghost use Rattle.fabric.specs.Tables.{rows_with};
 ghost use Rattle.parents.specs.Parents.{router_parent, xdomain_parent, parent_of, parent_answer};
 ghost use Rattle.parents.specs.Tables.{ParentIs};
 ghost use Rattle.refusal.specs.Refusal.{outcome};
 
 use refusal::{Fault, FieldError, Refusal, Site};
-use tables::DeviceFacts;
+use tables::{DeviceFacts, Tables};
+use usb4::Kind;
 
 // A router's parent by its upstream adapter.
 fn router_parent(
-    routes: &[u64],
-    marks: &[u64],
-    adapters: &[u64],
+    tables: &Tables,
     place: usize,
     d: DeviceFacts,
-) -> Result<Option<usize>, Refusal>
-    ensures { ParentIs adapters.now routes.now marks.now place (λ x. router_parent x place (device_row place d)) result }
+) -> Result<Option<usize>, Fault>
+    ensures { ParentIs tables.now place (λ x. router_parent x place (device_row place d)) result }
 {
     let upstream = d.upstream;
     let a = match upstream {
         Ok(Some(a)) => a,
         Ok(None) => return Ok(None),
-        Err(FieldError::NoField) => {
-            return Err(Refusal::Fault(Fault::NoField(Site { place, adapter: 0 })));
-        }
+        Err(FieldError::NoField) => return Err(Fault::NoField(Site { place, adapter: 0 })),
     };
-    let Some(f) = search::find_adapter(adapters, place, a) else {
+    let Some(f) = search::find_adapter(tables.adapters, place, a) else {
         return Ok(None);
     };
     match links::upstream_route_of(place, d, f)? {
-        Some(r) => Ok(routers::find_router(routes, marks, d.domain, r)),
+        Some(r) => Ok(routers::find_router(tables, d.domain, r)),
         None => Ok(None),
     }
 }
 
 // An xdomain's parent by its route.
 fn xdomain_parent(
-    routes: &[u64],
-    marks: &[u64],
+    tables: &Tables,
     place: usize,
     d: DeviceFacts,
-) -> Result<Option<usize>, Refusal>
-    ensures { (ad : List ℕ) (es : List EntryRow) → outcome result ≡ xdomain_parent (rows_with es ad routes.now marks.now) place (device_row place d) }
+) -> Result<Option<usize>, Fault>
+    ensures { fault_outcome result ≡ xdomain_parent (rows_of tables.now) place (device_row place d) }
 {
-    let Some(r) = route::upstream_route(d.route) else {
-        return Err(Refusal::Fault(Fault::NoParentRoute(Site { place, adapter: 0 })));
-    };
-    Ok(routers::find_router(routes, marks, d.domain, r))
+    let site = Site { place, adapter: 0 };
+    let route = route::upstream_route(d.route).ok_or(Fault::NoParentRoute(site))?;
+    Ok(routers::find_router(tables, d.domain, route))
 }
 
 // A device's parent, in the tables.
-pub fn parent_of(
-    routes: &[u64],
-    marks: &[u64],
-    adapters: &[u64],
-    place: usize,
-    d: DeviceFacts,
-) -> Result<Option<usize>, Refusal>
-    ensures { ParentIs adapters.now routes.now marks.now place (λ x. parent_of x place (device_row place d)) result }
+pub fn parent_of(tables: &Tables, place: usize, d: DeviceFacts) -> Result<Option<usize>, Fault>
+    ensures { ParentIs tables.now place (λ x. parent_of x place (device_row place d)) result }
 {
     let kind = d.kind;
-    let number = usb4::kind_number(kind);
-    if number == 1 {
-        return router_parent(routes, marks, adapters, place, d);
+    match kind {
+        Kind::Router => router_parent(tables, place, d),
+        Kind::Xdomain => xdomain_parent(tables, place, d),
+        _ => Ok(None),
     }
-    if number == 2 {
-        return xdomain_parent(routes, marks, place, d);
-    }
-    Ok(None)
 }
 
 // The place of a device's parent: of a router by its upstream adapter, of an xdomain by its route.

@@ -21,14 +21,13 @@ use Rattle.refusal.proofs.Laws.{refused_bind}
 use Rattle.orbit.specs.Walk.{hops_n}
 use Rattle.orbit.proofs.Orbit.{reach_start, reach_ends, reach_stops, ends_within}
 use Rattle.fabric.specs.Fabric.{leads}
-use Rattle.fabric.specs.Tables.{rows_with}
 use Rattle.fabric.proofs.Laws.{leads_missing}
-use Rattle.walk.specs.Walking.{Stand, turn_by, walk_on, path_of}
+use Rattle.walk.specs.Walking.{turn_by, walk_on, path_of}
 use Rattle.walk.specs.Rule.{settled, walk_from, in_room}
-use Rattle.walk.specs.Tables.{rows_of, Tabled, Leaving, leaves, leaving_of, leaving_by, tally_outcome, hops_by, is_path as is-path, Tallied}
+use Rattle.walk.specs.Tables.{Leaving, leaves, leaving_of, leaving_by, tally_outcome, hops_by, is_path as is-path, Tallied}
 use Rattle.path.specs.Words.{hops_words, path_words, words_needed, with_path, output_by}
 use Rattle.path.specs.Work.{walk_in, so_far, HopsPut}
-use Rattle.path.specs.Put.{is_path, Sized, Put, WalkPut}
+use Rattle.path.specs.Put.{is_path, Put, WalkPut}
 use Rattle.walk.proofs.Leading.{there_below}
 use Rattle.walk.proofs.Laws.{walk_ends, ranked, hopped, sound, rule}
 use Rattle.path.proofs.Writing.{refused_as_lem, length_path_words}
@@ -36,48 +35,51 @@ use Rattle.refusal.specs.Refusal.{outcome}
 use Rattle.refusal.specs.declared.Refusal.TheVariants as refusal
 use Rattle.walk.specs.Tables.{walked_to}
 use Rattle.walk.specs.declared.Walked.{Walked}
+use Rattle.tables.specs.declared.Stand.{Stand}
+use Rattle.tables.specs.declared.Tables.{Tables}
+use Rattle.tables.specs.Tables.{Sized, Tabled, rows_of}
 
 -- ---- the start of a path
 
 -- no hop leads anywhere from a device that isn't there
-leads_far : (en ad ro ma : List ℕ) (p o : ℕ) → length ro ≤ p → leads (rows_of en ad ro ma) p o ≡ refused 14 []
-unfolding rows_of rows_with
-leads_far en ad ro ma p o l = sym (leads_missing (rows_of en ad ro ma) p o (device_past_routes 0 ro ma p l))
+leads_far : (tables : Tables) (p o : ℕ) → length tables.routes.now ≤ p → leads (rows_of tables) p o ≡ refused 14 []
+unfolding rows_of
+leads_far tables p o l = sym (leads_missing (rows_of tables) p o (device_past_routes 0 tables.routes.now tables.marks.now p l))
 
-module _ (en ad ro ma : List ℕ) (s : Stand) (hs : List EntryRow) (e : walk_from (rows_of en ad ro ma) s ≡ value (Some hs)) where
-  pub start_there : s.place < length ro
+module _ (tables : Tables) (s : Stand) (hs : List EntryRow) (e : walk_from (rows_of tables) s ≡ value (Some hs)) where
+  pub start_there : s.place < length tables.routes.now
   unfolding settled path_of hops_n walk_on turn_by
-  start_there = go (dec_lt s.place (length ro)) ((walk_on (rows_of en ad ro ma)).hop s) refl
+  start_there = go (dec_lt s.place (length tables.routes.now)) ((walk_on (rows_of tables)).hop s) refl
     where
-      go : Dec (s.place < length ro) → (o : Option EntryRow) → (walk_on (rows_of en ad ro ma)).hop s ≡ o → s.place < length ro
+      go : Dec (s.place < length tables.routes.now) → (o : Option EntryRow) → (walk_on (rows_of tables)).hop s ≡ o → s.place < length tables.routes.now
       go (yes l) o f = l
       go (no l) None f = absurd (
-          let w = reach_stops (walk_on (rows_of en ad ro ma)) s (reach_start (walk_on (rows_of en ad ro ma)) s) f in
-          let v : value (Some hs) ≡ value None = sym e ∙ walk_ends (rows_of en ad ro ma) s w.0 ∙ ap (settled []) w.1 in
+          let w = reach_stops (walk_on (rows_of tables)) s (reach_start (walk_on (rows_of tables)) s) f in
+          let v : value (Some hs) ≡ value None = sym e ∙ walk_ends (rows_of tables) s w.0 ∙ ap (settled []) w.1 in
           let z : ◌≡◌ {A = ℕ} 0 1 = cc in
           omega arith)
       go (no l) (Some h) f = absurd (
-          let w = reach_ends (walk_on (rows_of en ad ro ma)) s (reach_start (walk_on (rows_of en ad ro ma)) s) f (ap (turn_by h) (leads_far en ad ro ma s.place h.out_adapter (omega arith))) in
-          let v : value (Some hs) ≡ refused 14 [] = sym e ∙ walk_ends (rows_of en ad ro ma) s w.0 ∙ ap (settled _) w.1 in
+          let w = reach_ends (walk_on (rows_of tables)) s (reach_start (walk_on (rows_of tables)) s) f (ap (turn_by h) (leads_far tables s.place h.out_adapter (omega arith))) in
+          let v : value (Some hs) ≡ refused 14 [] = sym e ∙ walk_ends (rows_of tables) s w.0 ∙ ap (settled _) w.1 in
           let z : ◌≡◌ {A = ℕ} 0 1 = cc in
           omega arith)
 
 -- ---- the head word, after the hops
 
-module _ (en ad ro ma : List ℕ) (s : Stand) (name : ℕ) (out : List ℕ) where
+module _ (tables : Tables) (s : Stand) (name : ℕ) (out : List ℕ) where
   -- no room for a head word
-  pub walk_no_room : length out < 1 → WalkPut en ad ro ma s name out 0 out
+  pub walk_no_room : length out < 1 → WalkPut tables s name out 0 out
   walk_no_room l = record { answers = λ z t hs e f. absurd (no_room hs f); writes = λ z t hs e f. absurd (no_room hs f); fits = omega arith; tail = refl; long = refl }
     where
       no_room : (hs : List EntryRow) → words_needed name hs ≤ length out → ⊥
       no_room hs f = omega (arith, length_path_words name hs)
 
   -- a path has no more hops than there are entries
-  few : Sized en ro → (hs : List EntryRow) (e : walk_from (rows_of en ad ro ma) s ≡ value (Some hs)) → (hopped (rows_of en ad ro ma) s hs e).count ≤ 4096
-  unfolding rows_of rows_with
-  few z hs e = omega (arith, ends_within (walk_on (rows_of en ad ro ma)) (valid_entries (rows_of en ad ro ma)) (ranked (rows_of en ad ro ma)) s (hopped (rows_of en ad ro ma) s hs e).ends, length-map en entry_word, z.entries)
+  few : Sized tables → (hs : List EntryRow) (e : walk_from (rows_of tables) s ≡ value (Some hs)) → (hopped (rows_of tables) s hs e).count ≤ 4096
+  unfolding rows_of
+  few z hs e = omega (arith, ends_within (walk_on (rows_of tables)) (valid_entries (rows_of tables)) (ranked (rows_of tables)) s (hopped (rows_of tables) s hs e).ends, length-map tables.entries.now entry_word, z.entries)
 
-  pub walk_put : (n w : ℕ) (mid : List ℕ) → (n < 65536 → w ≡ 9 * 268435456 + name * 65536 + n) → HopsPut en ad ro ma s out n mid → WalkPut en ad ro ma s name out (1 + 2 * n) (set mid 0 w)
+  pub walk_put : (n w : ℕ) (mid : List ℕ) → (n < 65536 → w ≡ 9 * 268435456 + name * 65536 + n) → HopsPut tables s out n mid → WalkPut tables s name out (1 + 2 * n) (set mid 0 w)
   unfolding so_far with_path words_needed path_words walk_in
   walk_put n w mid head p = record {
     answers = λ z t hs e f. let y = all z t hs e f in omega (arith, y.0, length_path_words name hs);
@@ -91,11 +93,11 @@ module _ (en ad ro ma : List ℕ) (s : Stand) (name : ℕ) (out : List ℕ) wher
     long = length-set mid 0 w ∙ p.long;
   }
     where
-      all : Sized en ro → Tabled en ad ro → (hs : List EntryRow) → walk_from (rows_of en ad ro ma) s ≡ value (Some hs) → words_needed name hs ≤ length out → (n ≡ length hs) × (mid ≡ so_far (get_or out 0 0) hs out) × (n ≤ 4096)
+      all : Sized tables → Tabled tables → (hs : List EntryRow) → walk_from (rows_of tables) s ≡ value (Some hs) → words_needed name hs ≤ length out → (n ≡ length hs) × (mid ≡ so_far (get_or out 0 0) hs out) × (n ≤ 4096)
       all z t hs e f =
-          let g = hopped (rows_of en ad ro ma) s hs e in
-          let y = p.words z t (start_there en ad ro ma s hs e) g.count g.ends (omega (arith, g.long, length_path_words name hs)) in
-          (omega (arith, y.0, g.long), y.1 ∙ ap (λ l. so_far (get_or out 0 0) l out) (ap (hops_n (walk_on (rows_of en ad ro ma)) s) y.0 ∙ g.hops), omega (arith, y.0, few z hs e))
+          let g = hopped (rows_of tables) s hs e in
+          let y = p.words z t (start_there tables s hs e) g.count g.ends (omega (arith, g.long, length_path_words name hs)) in
+          (omega (arith, y.0, g.long), y.1 ∙ ap (λ l. so_far (get_or out 0 0) l out) (ap (hops_n (walk_on (rows_of tables)) s) y.0 ∙ g.hops), omega (arith, y.0, few z hs e))
 
 -- ---- the walk's outcome, by what its number of hops says
 
@@ -119,10 +121,10 @@ leaves_some (value (Some [])) l e = absurd (let z : ◌≡◌ {A = ℕ} 0 1 = cc
 leaves_some (value (Some (h ∷ hs))) l e = (h ∷ hs, refl, cc)
 
 -- a path has a hop, and no more than there are entries
-pub hops_few : (en ad ro ma : List ℕ) (s : Stand) (r : Result (Option Walked) Refusal) → Sized en ro → Tallied en ad ro ma s r → (n q a h : ℕ) → r ≡ walked_to n q a h → (0 < n) × (n ≤ length en) × (n ≤ 4096)
+pub hops_few : (tables : Tables) (s : Stand) (r : Result (Option Walked) Refusal) → Sized tables → Tallied tables s r → (n q a h : ℕ) → r ≡ walked_to n q a h → (0 < n) × (n ≤ length tables.entries.now) × (n ≤ 4096)
 unfolding hops_by is-path
-hops_few en ad ro ma s r z f n q a h e =
-    let k : n ≤ length en = subst (λ w. hops_by w ≤ length en) e f.few in
+hops_few tables s r z f n q a h e =
+    let k : n ≤ length tables.entries.now = subst (λ w. hops_by w ≤ length tables.entries.now) e f.few in
     (ltb-true 0 n (sym (subst (λ w. is-path w ≡ ltb 0 (hops_by w)) e f.one)), k, omega (arith, z.entries))
 
 -- ---- what is answered
@@ -136,16 +138,16 @@ wrote_path name n hs out out' e f = go (ltb (length out) (words_needed name hs))
     go true p q = absurd (let z : ◌≡◌ {A = ℕ} 0 1 = cc in omega arith)
     go false p q = q
 
-module _ (en ad ro ma : List ℕ) (s : Stand) (name : ℕ) (out : List ℕ) where
+module _ (tables : Tables) (s : Stand) (name : ℕ) (out : List ℕ) where
   abbrev whole_walk : Outcome (Option (List EntryRow))
-  whole_walk = walk_from (rows_of en ad ro ma) s
+  whole_walk = walk_from (rows_of tables) s
 
   -- an answer and an output that follow the walk keep demand 3
   put_by : (a : Result (Option ℕ) Refusal) (out' : List ℕ)
-      → (Sized en ro → Tabled en ad ro → s.place < 65536 → (outcome a ≡ bind whole_walk (in_room (words_needed name) (length out))) × (out' ≡ output_by name whole_walk out))
-      → (65535 < s.place → a ≡ (Ok None)) → ((Sized en ro → ⊥) → a ≡ (Ok None)) → (is_path a ≡ false → out' ≡ out)
-      → ((n : ℕ) → a ≡ Ok (Some n) → (0 < n) × (1 + 2 * n ≤ length out) × (drop (1 + 2 * n) out' ≡ drop (1 + 2 * n) out)) → length out' ≡ length out → Put en ad ro ma s name out a out'
-  unfolding rows_of rows_with
+      → (Sized tables → Tabled tables → s.place < 65536 → (outcome a ≡ bind whole_walk (in_room (words_needed name) (length out))) × (out' ≡ output_by name whole_walk out))
+      → (65535 < s.place → a ≡ (Ok None)) → ((Sized tables → ⊥) → a ≡ (Ok None)) → (is_path a ≡ false → out' ≡ out)
+      → ((n : ℕ) → a ≡ Ok (Some n) → (0 < n) × (1 + 2 * n ≤ length out) × (drop (1 + 2 * n) out' ≡ drop (1 + 2 * n) out)) → length out' ≡ length out → Put tables s name out a out'
+  unfolding rows_of
   put_by a out' follows past larger kept path long = record {
     answers = λ z t l. (follows z t l).0;
     writes = λ z t l. (follows z t l).1;
@@ -156,20 +158,20 @@ module _ (en ad ro ma : List ℕ) (s : Stand) (name : ℕ) (out : List ℕ) wher
     tail = λ n e. (path n e).2;
     long = long;
     walks = λ z t d q.
-        let g = sound en ad ro ma s d q in
-        let w = follows z t (omega (arith, t.devices, there_below (entries_in en) ad ro ma s.place g.start)) in
-        rule (rows_of en ad ro ma) s (words_needed name) (length out) (λ hs. out' ≡ with_path name hs out) (outcome a) g w.0
+        let g = sound tables s d q in
+        let w = follows z t (omega (arith, t.devices, there_below tables s.place g.start)) in
+        rule (rows_of tables) s (words_needed name) (length out) (λ hs. out' ≡ with_path name hs out) (outcome a) g w.0
         (λ hs n e v. wrote_path name n hs out out' (sym v ∙ w.0 ∙ ap (λ y. bind y (in_room (words_needed name) (length out))) e) (w.1 ∙ ap (λ y. output_by name y out) e));
   }
 
   -- no path, and nothing is written
-  put_none : (a : Result (Option ℕ) Refusal) → is_path a ≡ false → (Sized en ro → Tabled en ad ro → s.place < 65536 → (outcome a ≡ bind whole_walk (in_room (words_needed name) (length out))) × (out ≡ output_by name whole_walk out))
-      → (65535 < s.place → a ≡ (Ok None)) → ((Sized en ro → ⊥) → a ≡ (Ok None)) → Put en ad ro ma s name out a out
+  put_none : (a : Result (Option ℕ) Refusal) → is_path a ≡ false → (Sized tables → Tabled tables → s.place < 65536 → (outcome a ≡ bind whole_walk (in_room (words_needed name) (length out))) × (out ≡ output_by name whole_walk out))
+      → (65535 < s.place → a ≡ (Ok None)) → ((Sized tables → ⊥) → a ≡ (Ok None)) → Put tables s name out a out
   unfolding is_path
   put_none a b follows past larger = put_by a out follows past larger (λ p. refl) (λ n e. absurd (true≢false (sym (ap is_path e) ∙ b))) refl
 
   -- tables larger than a survey's
-  pub put_larger : (Sized en ro → ⊥) → Put en ad ro ma s name out (Ok None) out
+  pub put_larger : (Sized tables → ⊥) → Put tables s name out (Ok None) out
   unfolding is_path
   put_larger n = put_none (Ok None) refl (λ z t l. absurd (n z)) (λ l. refl) (λ z. refl)
 
@@ -178,31 +180,31 @@ module _ (en ad ro ma : List ℕ) (s : Stand) (name : ℕ) (out : List ℕ) wher
       → (outcome a ≡ bind whole_walk (in_room (words_needed name) (length out))) × (out' ≡ output_by name whole_walk out)
   by_outcome a out' o e p q = (p ∙ ap (λ z. bind z (in_room (words_needed name) (length out))) (sym e), q ∙ ap (λ z. output_by name z out) (sym e))
 
-  module _ (r : Result (Option Walked) Refusal) (z : Sized en ro) (f : Tallied en ad ro ma s r) where
-    pub put_refused : (x : Refusal) → r ≡ Err x → Put en ad ro ma s name out (Err x) out
+  module _ (r : Result (Option Walked) Refusal) (z : Sized tables) (f : Tallied tables s r) where
+    pub put_refused : (x : Refusal) → r ≡ Err x → Put tables s name out (Err x) out
     unfolding output_by bind tally_outcome is_path
     put_refused x e = put_none (Err x) refl
         (λ y t l. let w = leaves_refused whole_walk x (sym (ap tally_outcome e) ∙ f.answers t l) in by_outcome (Err x) out (refused w.0 w.1) w.2 w.3 refl)
         (λ l. absurd (let p = f.past l in let y : ◌≡◌ {A = ℕ} 0 1 = cc in omega arith))
         (λ n. absurd (n z))
 
-    pub put_absent : r ≡ (Ok None) → Put en ad ro ma s name out (Ok None) out
+    pub put_absent : r ≡ (Ok None) → Put tables s name out (Ok None) out
     unfolding output_by bind in_room tally_outcome is_path
     put_absent e = put_none (Ok None) refl
-        (λ y t l. by_outcome (Ok None) out (value None) (leaves_none whole_walk (sym (ap tally_outcome e) ∙ f.answers t l) (λ q. let h = hopped (rows_of en ad ro ma) s [] q in omega (arith, h.one, h.long))) refl refl)
+        (λ y t l. by_outcome (Ok None) out (value None) (leaves_none whole_walk (sym (ap tally_outcome e) ∙ f.answers t l) (λ q. let h = hopped (rows_of tables) s [] q in omega (arith, h.one, h.long))) refl refl)
         (λ l. refl)
         (λ n. refl)
 
     module _ (n q a h : ℕ) (e : r ≡ walked_to n q a h) where
       -- on tables as loading leaves them the number of hops is the path's
-      hops_are : Tabled en ad ro → s.place < 65536 → (hs : List EntryRow) × (whole_walk ≡ value (Some hs)) × (n ≡ length hs)
+      hops_are : Tabled tables → s.place < 65536 → (hs : List EntryRow) × (whole_walk ≡ value (Some hs)) × (n ≡ length hs)
       unfolding tally_outcome
       hops_are t l = leaves_some whole_walk (record { hops = n; place = q; adapter = a; hop_id = h }) (sym (ap tally_outcome e) ∙ f.answers t l)
 
       no_path_lem : 65535 < s.place → ⊥
       no_path_lem l = let p = f.past l in let y : ◌≡◌ {A = ℕ} 0 1 = cc in omega arith
 
-      pub put_short : length out < 1 + 2 * n → Put en ad ro ma s name out (Err (refusal.Short (1 + 2 * n))) out
+      pub put_short : length out < 1 + 2 * n → Put tables s name out (Err (refusal.Short (1 + 2 * n))) out
       unfolding output_by bind in_room is_path
       put_short k = put_none _ refl
           (λ y t l.
@@ -213,9 +215,9 @@ module _ (en ad ro ma : List ℕ) (s : Stand) (name : ℕ) (out : List ℕ) wher
           (λ l. absurd (no_path_lem l))
           (λ x. absurd (x z))
 
-      pub put_whole : (S : List ℕ) (i : ℕ) → 1 + 2 * n ≤ length out → length S ≡ length (take (1 + 2 * n) out) → WalkPut en ad ro ma s name (take (1 + 2 * n) out) i S → Put en ad ro ma s name out (Ok (Some n)) (S ++ drop (1 + 2 * n) out)
+      pub put_whole : (S : List ℕ) (i : ℕ) → 1 + 2 * n ≤ length out → length S ≡ length (take (1 + 2 * n) out) → WalkPut tables s name (take (1 + 2 * n) out) i S → Put tables s name out (Ok (Some n)) (S ++ drop (1 + 2 * n) out)
       unfolding output_by bind in_room is_path with_path
-      put_whole S i k m v = let few = hops_few en ad ro ma s r z f n q a h e in put_by _ (S ++ drop (1 + 2 * n) out)
+      put_whole S i k m v = let few = hops_few tables s r z f n q a h e in put_by _ (S ++ drop (1 + 2 * n) out)
           (λ y t l.
           let w = hops_are t l in
           let j : 1 + 2 * n ≡ words_needed name w.0 = omega (arith, w.2, length_path_words name w.0) in

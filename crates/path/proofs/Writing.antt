@@ -18,17 +18,18 @@ use Rattle.refusal.proofs.Laws.{refused_bind}
 use Rattle.orbit.specs.Walk.{Turn.ends as comes-to, hops_n, EndsAfter}
 use Rattle.orbit.proofs.Orbit.{Reached, reach_start, reach_on, reach_ends, reach_stops, reach_hops, length_hops, ends_once}
 use Rattle.fabric.specs.Fabric.{leads}
-use Rattle.fabric.specs.Tables.{InOrder, LeadsTo, next_outcome, rows_with}
-use Rattle.walk.specs.Walking.{Stand, End, End.path, End.no_path, End.fault, walk_on, turn_by}
-use Rattle.walk.specs.Tables.{rows_of, Tabled}
+use Rattle.fabric.specs.Tables.{LeadsTo, next_outcome}
+use Rattle.walk.specs.Walking.{End, End.path, End.no_path, End.fault, walk_on, turn_by}
 use Rattle.walk.proofs.Leading.{there_below, leads_there, upstreams}
 use Rattle.path.specs.Words.{hop_words, hops_words, path_words, words_needed}
-use Rattle.path.specs.Put.{Sized}
 use Rattle.path.specs.Work.{walk_in, so_far, HopsPut}
 use Rattle.adapter.specs.declared.EntryOut.{EntryOut}
 use Rattle.adapter.specs.Paths.{entry_out}
 use Rattle.fabric.specs.declared.Next.{Next}
 use Rattle.fabric.specs.declared.Next.TheVariants as next
+use Rattle.tables.specs.declared.Stand.{Stand}
+use Rattle.tables.specs.declared.Tables.{Tables}
+use Rattle.tables.specs.Tables.{InOrder, Sized, Tabled, rows_of}
 
 -- ---- words
 
@@ -90,38 +91,38 @@ abbrev row : ℕ → ℕ → ℕ → ℕ → ℕ → EntryRow
 row p a h o g = record { device = p; adapter = a; in_hop = h; out_adapter = o; out_hop = g }
 
 -- tables as loading leaves them, a start that is there, and a walk that ends after m hops, for which there is room
-pub record Makes (en ad ro ma : List ℕ) (s : Stand) (old : List ℕ) (m : ℕ) : Type 0 where
-  pub sized : Sized en ro
-  pub tabled : Tabled en ad ro
-  pub there : s.place < length ro
-  pub ends : EndsAfter (walk_in en ad ro ma) s m
+pub record Makes (tables : Tables) (s : Stand) (old : List ℕ) (m : ℕ) : Type 0 where
+  pub sized : Sized tables
+  pub tabled : Tabled tables
+  pub there : s.place < length tables.routes.now
+  pub ends : EndsAfter (walk_in tables) s m
   pub room : 1 + 2 * m ≤ length old
 
 -- i hops are written, and the walk has come to y
-pub record Wrote (en ad ro ma : List ℕ) (s : Stand) (old : List ℕ) (i : ℕ) (y : Stand) (out : List ℕ) : Type 0 where
-  pub reached : Reached (walk_in en ad ro ma) s i y
-  pub there : y.place < length ro
-  pub words : out ≡ so_far (get_or old 0 0) (hops_n (walk_in en ad ro ma) s i) old
+pub record Wrote (tables : Tables) (s : Stand) (old : List ℕ) (i : ℕ) (y : Stand) (out : List ℕ) : Type 0 where
+  pub reached : Reached (walk_in tables) s i y
+  pub there : y.place < length tables.routes.now
+  pub words : out ≡ so_far (get_or old 0 0) (hops_n (walk_in tables) s i) old
 
 -- what the loop keeps: no word past the hops so far is changed, whatever the tables
-pub record Kept (en ad ro ma : List ℕ) (s : Stand) (old : List ℕ) (i p a h : ℕ) (out : List ℕ) : Type 0 where
+pub record Kept (tables : Tables) (s : Stand) (old : List ℕ) (i p a h : ℕ) (out : List ℕ) : Type 0 where
   pub hop_id : h < 65536
   pub room : 1 + 2 * i ≤ length old
   pub long : length out ≡ length old
   pub tail : drop (1 + 2 * i) out ≡ drop (1 + 2 * i) old
-  pub wrote : (m : ℕ) → Makes en ad ro ma s old m → Wrote en ad ro ma s old i (stood p a h) out
+  pub wrote : (m : ℕ) → Makes tables s old m → Wrote tables s old i (stood p a h) out
 
-pub kept_start : (en ad ro ma : List ℕ) (s : Stand) (old : List ℕ) → s.hop_id < 65536 → 1 ≤ length old → Kept en ad ro ma s old 0 s.place s.adapter s.hop_id old
+pub kept_start : (tables : Tables) (s : Stand) (old : List ℕ) → s.hop_id < 65536 → 1 ≤ length old → Kept tables s old 0 s.place s.adapter s.hop_id old
 unfolding so_far hops_n hops_words
-kept_start en ad ro ma s old l room = record {
+kept_start tables s old l room = record {
   hop_id = l;
   room = room;
   long = refl;
   tail = refl;
-  wrote = λ m k. record { reached = reach_start (walk_in en ad ro ma) s; there = k.there; words = drop-cons old 0 0 (omega arith) };
+  wrote = λ m k. record { reached = reach_start (walk_in tables) s; there = k.there; words = drop-cons old 0 0 (omega arith) };
 }
 
-in_order : {en ad ro : List ℕ} → Tabled en ad ro → InOrder ad ro
+in_order : {tables : Tables} → Tabled tables → InOrder tables
 in_order t = record { adapters = t.adapter_order; devices = t.devices }
 
 -- two words after the hops so far
@@ -134,54 +135,54 @@ two_tail out old i u v e =
     drop-set-lt (1 + 2 * (i + 1)) (set out (1 + 2 * i) u) (2 + 2 * i) v (omega arith) ∙ drop-set-lt (1 + 2 * (i + 1)) out (1 + 2 * i) u (omega arith)
     ∙ ap (λ j. drop j out) k ∙ sym (drop-drop 2 (1 + 2 * i) out) ∙ ap (drop 2) e ∙ drop-drop 2 (1 + 2 * i) old ∙ ap (λ j. drop j old) (sym k)
 
-module _ (en ad ro ma : List ℕ) (s : Stand) (old : List ℕ) where
+module _ (tables : Tables) (s : Stand) (old : List ℕ) where
   -- a walk that ends here has made all its hops
   done : (i : ℕ) (out : List ℕ) → 1 + 2 * i ≤ length old → length out ≡ length old → drop (1 + 2 * i) out ≡ drop (1 + 2 * i) old
-      → ((m : ℕ) → Makes en ad ro ma s old m → (i ≡ m) × (out ≡ so_far (get_or old 0 0) (hops_n (walk_in en ad ro ma) s i) old)) → HopsPut en ad ro ma s old i out
+      → ((m : ℕ) → Makes tables s old m → (i ≡ m) × (out ≡ so_far (get_or old 0 0) (hops_n (walk_in tables) s i) old)) → HopsPut tables s old i out
   done i out room long tail all = record { fits = room; long = long; tail = tail; words = λ z t l m e r. all m (record { sized = z; tabled = t; there = l; ends = e; room = r }) }
 
-  module _ (i p a h : ℕ) (out : List ℕ) (k : Kept en ad ro ma s old i p a h out) where
+  module _ (i p a h : ℕ) (out : List ℕ) (k : Kept tables s old i p a h out) where
     -- there is no more room: nor has the walk more hops
-    pub kept_full : (length old - 1) / 2 ≤ i → HopsPut en ad ro ma s old i out
+    pub kept_full : (length old - 1) / 2 ≤ i → HopsPut tables s old i out
     kept_full l = done i out k.room k.long k.tail (λ m y. (whole m y (dec_lt m i), (k.wrote m y).words))
       where
-        whole : (m : ℕ) → Makes en ad ro ma s old m → Dec (m < i) → i ≡ m
+        whole : (m : ℕ) → Makes tables s old m → Dec (m < i) → i ≡ m
         whole m y (yes q) = absurd (true≢false (sym ((k.wrote m y).reached.hops m q) ∙ y.ends.over))
         whole m y (no q) = omega (arith, y.room)
 
     -- an entry is sought for the next hop
-    module _ (more : i < (length old - 1) / 2) (r : Option EntryOut) (f : EntrySought en p a h r) where
-      found_hop : (m : ℕ) → Makes en ad ro ma s old m → (walk_in en ad ro ma).hop (stood p a h) ≡ entry_found p a h r
-      unfolding walk_in walk_on rows_of rows_with
+    module _ (more : i < (length old - 1) / 2) (r : Option EntryOut) (f : EntrySought tables.entries.now p a h r) where
+      found_hop : (m : ℕ) → Makes tables s old m → (walk_in tables).hop (stood p a h) ≡ entry_found p a h r
+      unfolding walk_in walk_on rows_of
       found_hop m y = sym (f.first (omega (arith, (k.wrote m y).there, y.tabled.devices)) y.tabled.entry_order)
 
-      pub kept_missing : r ≡ None → HopsPut en ad ro ma s old i out
+      pub kept_missing : r ≡ None → HopsPut tables s old i out
       unfolding entry_found
       kept_missing e = done i out k.room k.long k.tail
-          (λ m y. (ends_once (walk_in en ad ro ma) s (reach_stops (walk_in en ad ro ma) s (k.wrote m y).reached (found_hop m y ∙ ap (entry_found p a h) e)).0 y.ends, (k.wrote m y).words))
+          (λ m y. (ends_once (walk_in tables) s (reach_stops (walk_in tables) s (k.wrote m y).reached (found_hop m y ∙ ap (entry_found p a h) e)).0 y.ends, (k.wrote m y).words))
 
       module _ (o g u v : ℕ) (e : r ≡ Some (entry_out o g)) (first : p < 4096 → u ≡ 10 * 268435456 + p * 65536 + a * 256 + o) (second : v ≡ h * 65536 + g) where
         abbrev out' : List ℕ
         out' = set (set out (1 + 2 * i) u) (2 + 2 * i) v
 
-        hop_here : (m : ℕ) → Makes en ad ro ma s old m → (walk_in en ad ro ma).hop (stood p a h) ≡ Some (row p a h o g)
+        hop_here : (m : ℕ) → Makes tables s old m → (walk_in tables).hop (stood p a h) ≡ Some (row p a h o g)
         unfolding entry_found
         hop_here m y = found_hop m y ∙ ap (entry_found p a h) e
 
         -- one more hop is written
-        hop_written : (m : ℕ) → Makes en ad ro ma s old m → out' ≡ so_far (get_or old 0 0) (hops_n (walk_in en ad ro ma) s (i + 1)) old
+        hop_written : (m : ℕ) → Makes tables s old m → out' ≡ so_far (get_or old 0 0) (hops_n (walk_in tables) s (i + 1)) old
         unfolding hop_words
         hop_written m y =
-            so_far_more (get_or old 0 0) (hops_n (walk_in en ad ro ma) s i) (row p a h o g) old out i u v (length_hops (walk_in en ad ro ma) s i (k.wrote m y).reached.hops) (omega arith)
+            so_far_more (get_or old 0 0) (hops_n (walk_in tables) s i) (row p a h o g) old out i u v (length_hops (walk_in tables) s i (k.wrote m y).reached.hops) (omega arith)
             (ap (λ z. z ∷ v ∷ []) (first (omega (arith, (k.wrote m y).there, y.sized.devices))) ∙ ap (λ z. (10 * 268435456 + p * 65536 + a * 256 + o) ∷ z ∷ []) second) (k.wrote m y).words
-            ∙ ap (λ l. so_far (get_or old 0 0) l old) (sym (reach_hops (walk_in en ad ro ma) s (k.wrote m y).reached (hop_here m y)))
+            ∙ ap (λ l. so_far (get_or old 0 0) l old) (sym (reach_hops (walk_in tables) s (k.wrote m y).reached (hop_here m y)))
 
-        module _ (t : Result Next Refusal) (l : LeadsTo ad ro ma (λ x. leads x p o) t) where
-          hop_turn : (m : ℕ) → Makes en ad ro ma s old m → (walk_in en ad ro ma).next (stood p a h) (row p a h o g) ≡ turn_by (row p a h o g) (next_outcome t)
+        module _ (t : Result Next Refusal) (l : LeadsTo tables (λ x. leads x p o) t) where
+          hop_turn : (m : ℕ) → Makes tables s old m → (walk_in tables).next (stood p a h) (row p a h o g) ≡ turn_by (row p a h o g) (next_outcome t)
           unfolding walk_in walk_on rows_of
           hop_turn m y = ap (turn_by _) (sym (l.leads_to (in_order y.tabled) _))
 
-          pub kept_on : (q b : ℕ) → g < 65536 → t ≡ Ok (next.On q b) → Kept en ad ro ma s old (i + 1) q b g out'
+          pub kept_on : (q b : ℕ) → g < 65536 → t ≡ Ok (next.On q b) → Kept tables s old (i + 1) q b g out'
           unfolding next_outcome turn_by
           kept_on q b w x = record {
             hop_id = w;
@@ -189,15 +190,15 @@ module _ (en ad ro ma : List ℕ) (s : Stand) (old : List ℕ) where
             long = two_long out i u v ∙ k.long;
             tail = two_tail out old i u v k.tail;
             wrote = λ m y. record {
-              reached = reach_on (walk_in en ad ro ma) s (k.wrote m y).reached (hop_here m y) (hop_turn m y ∙ ap (λ z. turn_by (row p a h o g) (next_outcome z)) x);
-              there = there_below (entries_in en) ad ro ma q (leads_there (rows_with (entries_in en) ad ro ma) (upstreams (entries_in en) ad ro ma) p o q b (sym (l.leads_to (in_order y.tabled) (entries_in en)) ∙ ap next_outcome x));
+              reached = reach_on (walk_in tables) s (k.wrote m y).reached (hop_here m y) (hop_turn m y ∙ ap (λ z. turn_by (row p a h o g) (next_outcome z)) x);
+              there = there_below tables q (leads_there (rows_of tables) (upstreams tables) p o q b (sym (l.leads_to (in_order y.tabled)) ∙ ap next_outcome x));
               words = hop_written m y;
             };
           }
 
           -- where it leads nowhere further it is the last
-          pub kept_last : ((q b : ℕ) → t ≡ Ok (next.On q b) → ⊥) → HopsPut en ad ro ma s old (i + 1) out'
+          pub kept_last : ((q b : ℕ) → t ≡ Ok (next.On q b) → ⊥) → HopsPut tables s old (i + 1) out'
           kept_last w = done (i + 1) out' (omega arith) (two_long out i u v ∙ k.long) (two_tail out old i u v k.tail)
               (λ m y.
               let x = ends_here (row p a h o g) t w in
-              (ends_once (walk_in en ad ro ma) s (reach_ends (walk_in en ad ro ma) s (k.wrote m y).reached (hop_here m y) (hop_turn m y ∙ x.1)).0 y.ends, hop_written m y))
+              (ends_once (walk_in tables) s (reach_ends (walk_in tables) s (k.wrote m y).reached (hop_here m y) (hop_turn m y ∙ x.1)).0 y.ends, hop_written m y))

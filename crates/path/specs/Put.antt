@@ -3,42 +3,38 @@ use Rattle.std.specs.Prelude.{ℕ, ◌+◌, ◌*◌, ◌≤◌, ◌<◌, ◌≡�
 use Rattle.refusal.specs.Outcome.{Outcome, refused, value, bind}
 use Rattle.tables.specs.Rows.{EntryRow, DeviceRow}
 use Rattle.load.specs.Answers.{asked_device}
-use Rattle.walk.specs.Walking.{Stand}
 use Rattle.walk.specs.Rule.{walk_from, in_room, WalkRule}
-use Rattle.walk.specs.Tables.{rows_of, Tabled}
 use Rattle.path.specs.Words.{words_needed, with_path, output_by}
 use Rattle.refusal.specs.Refusal.{outcome}
 use Rattle.refusal.specs.declared.Refusal.{Refusal}
+use Rattle.tables.specs.declared.Stand.{Stand}
+use Rattle.tables.specs.declared.Tables.{Tables}
+use Rattle.tables.specs.Tables.{Sized, Tabled, rows_of}
 
 unfoldable pub is_path : Result (Option ℕ) Refusal → Bool
 is_path (Ok (Some n)) = true
 is_path (Ok None) = false
 is_path (Err r) = false
 
--- no more entries and devices than a survey loads to: result words have room for every number of hops and every place
-pub record Sized (en ro : List ℕ) : Type 0 where
-  pub entries : length en ≤ 4096
-  pub devices : length ro ≤ 4096
-
 -- In tables in order it is how the walk ends, and its path. In any others it is free, but that there is room for a path that is answered, and that no other word is changed.
-pub record Put (en ad ro ma : List ℕ) (s : Stand) (name : ℕ) (output : List ℕ) (r : Result (Option ℕ) Refusal) (output' : List ℕ) : Type 0 where
-  pub answers : Sized en ro → Tabled en ad ro → s.place < 65536 → outcome r ≡ bind (walk_from (rows_of en ad ro ma) s) (in_room (words_needed name) (length output))
-  pub writes : Sized en ro → Tabled en ad ro → s.place < 65536 → output' ≡ output_by name (walk_from (rows_of en ad ro ma) s) output
+pub record Put (tables : Tables) (s : Stand) (name : ℕ) (output : List ℕ) (r : Result (Option ℕ) Refusal) (output' : List ℕ) : Type 0 where
+  pub answers : Sized tables → Tabled tables → s.place < 65536 → outcome r ≡ bind (walk_from (rows_of tables) s) (in_room (words_needed name) (length output))
+  pub writes : Sized tables → Tabled tables → s.place < 65536 → output' ≡ output_by name (walk_from (rows_of tables) s) output
   pub past : 65535 < s.place → r ≡ (Ok None)
   -- larger tables have no path
-  pub larger : (Sized en ro → ⊥) → r ≡ (Ok None)
+  pub larger : (Sized tables → ⊥) → r ≡ (Ok None)
   pub kept : is_path r ≡ false → output' ≡ output
   pub fits : (n : ℕ) → r ≡ Ok (Some n) → (0 < n) × (1 + 2 * n ≤ length output)
   pub tail : (n : ℕ) → r ≡ Ok (Some n) → drop (1 + 2 * n) output' ≡ drop (1 + 2 * n) output
   pub long : length output' ≡ length output
   -- every start at a device that is there
-  pub walks : Sized en ro → Tabled en ad ro → (d : DeviceRow) → asked_device (rows_of en ad ro ma) s.place ≡ value d
-      → WalkRule (rows_of en ad ro ma) s (words_needed name) (length output) (λ hs. output' ≡ with_path name hs output) (outcome r)
+  pub walks : Sized tables → Tabled tables → (d : DeviceRow) → asked_device (rows_of tables) s.place ≡ value d
+      → WalkRule (rows_of tables) s (words_needed name) (length output) (λ hs. output' ≡ with_path name hs output) (outcome r)
 
 -- In tables in order, for a walk that has a path and where there is room for it, these are the path's words. Else what is written is free, but that no word past the answer is changed.
-pub record WalkPut (en ad ro ma : List ℕ) (s : Stand) (name : ℕ) (output : List ℕ) (r : ℕ) (output' : List ℕ) : Type 0 where
-  pub answers : Sized en ro → Tabled en ad ro → (hs : List EntryRow) → walk_from (rows_of en ad ro ma) s ≡ value (Some hs) → words_needed name hs ≤ length output → r ≡ words_needed name hs
-  pub writes : Sized en ro → Tabled en ad ro → (hs : List EntryRow) → walk_from (rows_of en ad ro ma) s ≡ value (Some hs) → words_needed name hs ≤ length output → output' ≡ with_path name hs output
+pub record WalkPut (tables : Tables) (s : Stand) (name : ℕ) (output : List ℕ) (r : ℕ) (output' : List ℕ) : Type 0 where
+  pub answers : Sized tables → Tabled tables → (hs : List EntryRow) → walk_from (rows_of tables) s ≡ value (Some hs) → words_needed name hs ≤ length output → r ≡ words_needed name hs
+  pub writes : Sized tables → Tabled tables → (hs : List EntryRow) → walk_from (rows_of tables) s ≡ value (Some hs) → words_needed name hs ≤ length output → output' ≡ with_path name hs output
   pub fits : r ≤ length output
   pub tail : drop r output' ≡ drop r output
   pub long : length output' ≡ length output

@@ -2,7 +2,6 @@
 #![tactic(auto)]
 
 ghost use Rattle.std.specs.Prelude.{◌+◌, ◌*◌, ◌≤◌, ◌<◌, ◌≡◌, length};
-ghost use Rattle.walk.specs.Walking.{Stand};
 ghost use Rattle.path.specs.Put.{Put, WalkPut};
 ghost use Rattle.path.specs.Work.{HopsPut};
 
@@ -30,17 +29,14 @@ fn hop_word(place: usize, adapter: u8, out_adapter: u8) -> u32
 
 // Writes the hops of a walk from the output's second word on, as far as there is room; how many.
 fn put_hops(
-    entries: &[u64],
-    adapters: &[u64],
-    routes: &[u64],
-    marks: &[u64],
+    tables: &Tables,
     place: usize,
     adapter: u8,
     hop: u16,
     output: &mut [u32],
 ) -> usize
     requires { 1 ≤ length output.old }
-    ensures { HopsPut entries.now adapters.now routes.now marks.now (record { place = place; adapter = adapter; hop_id = hop }) output.old result output.new }
+    ensures { HopsPut tables.now (record { place = place; adapter = adapter; hop_id = hop }) output.old result output.new }
 {
     let room = (output.len() - 1) / 2;
     let mut p = place;
@@ -54,7 +50,7 @@ fn put_hops(
         output[1 + 2 * i] = hop_word(p, a, entry.out_adapter);
         output[2 + 2 * i] = (h as u32) * 65536 + entry.out_hop as u32;
         i += 1;
-        let Ok(next) = fabric::leads(adapters, routes, marks, p, entry.out_adapter) else {
+        let Ok(next) = fabric::leads(tables, p, entry.out_adapter) else {
             return i;
         };
         let Next::On {
@@ -73,23 +69,20 @@ fn put_hops(
 
 // Writes a walk's hops, as far as there is room, as a path with a name; how many words. For a walk that is known to have a path: whether there is one is not looked at.
 pub fn put_walk(
-    entries: &[u64],
-    adapters: &[u64],
-    routes: &[u64],
-    marks: &[u64],
+    tables: &Tables,
     place: usize,
     adapter: u8,
     hop: u16,
     name: u8,
     output: &mut [u32],
 ) -> usize
-    ensures { WalkPut entries.now adapters.now routes.now marks.now (record { place = place; adapter = adapter; hop_id = hop }) name output.old result output.new }
+    ensures { WalkPut tables.now (record { place = place; adapter = adapter; hop_id = hop }) name output.old result output.new }
 {
     if output.len() < 1 {
         return 0;
     }
     let hops = put_hops(
-        entries, adapters, routes, marks, place, adapter, hop, output,
+        tables, place, adapter, hop, output,
     );
     output[0] = path_word(name, hops);
     1 + 2 * hops
@@ -97,17 +90,14 @@ pub fn put_walk(
 
 // Writes the path of the walk from an adapter and HopID of the device at a place, with a name, and answers how many hops it has, or the words needed (2); nothing where there is none, or too little room, or where the tables are larger than a survey's.
 pub fn put_path(
-    entries: &[u64],
-    adapters: &[u64],
-    routes: &[u64],
-    marks: &[u64],
+    tables: &Tables,
     place: usize,
     adapter: u8,
     hop: u16,
     name: u8,
     output: &mut [u32],
 ) -> Result<Option<usize>, Refusal>
-    ensures { Put entries.now adapters.now routes.now marks.now (record { place = place; adapter = adapter; hop_id = hop }) name output.old result output.new }
+    ensures { Put tables.now (record { place = place; adapter = adapter; hop_id = hop }) name output.old result output.new }
 {
     if MOST_ENTRIES < entries.len() {
         return Ok(None);
@@ -115,7 +105,7 @@ pub fn put_path(
     if MOST_DEVICES < routes.len() {
         return Ok(None);
     }
-    let walked = walk::tally(entries, adapters, routes, marks, place, adapter, hop)?;
+    let walked = walk::tally(tables, place, adapter, hop)?;
     let Some(path) = walked else {
         return Ok(None);
     };
@@ -124,10 +114,7 @@ pub fn put_path(
         return Err(Refusal::Short(need));
     }
     put_walk(
-        entries,
-        adapters,
-        routes,
-        marks,
+        tables,
         place,
         adapter,
         hop,

@@ -18,11 +18,10 @@ use Rattle.load.specs.declared.Loaded.{Loaded}
 use Rattle.refusal.specs.declared.Refusal.{Refusal}
 use Rattle.load.proofs.Result.{load_refused, usable}
 use Rattle.refusal.proofs.Laws.{refused_bind, numbered, not_refused}
-use Rattle.walk.specs.Tables.{rows_of}
 use Rattle.devices.proofs.Laws.{Held}
 use Rattle.walks.proofs.Laws.{nothing, refused_value, rows_loaded, sized, tabled}
 use Rattle.report.specs.Report.{answers_of, total_of}
-use Rattle.report.specs.Tables.{Fits, Tries}
+use Rattle.report.specs.Tables.{Tries}
 use Rattle.text.specs.Text.{survey_of, TextDone}
 use Rattle.program.specs.Program.{surveyed, rows_in}
 use Rattle.program.specs.Opened.{Found, found_in, open_of, used_rows, opened_by, Used, UsedBy, Opens}
@@ -34,6 +33,8 @@ use Rattle.program.specs.declared.Tried.{Tried}
 use Rattle.load.specs.declared.Counts.{Counts}
 use Rattle.refusal.specs.Refusal.{outcome}
 use Rattle.load.specs.Answers.{counted}
+use Rattle.tables.specs.declared.Tables.{Tables}
+use Rattle.tables.specs.Tables.{Fits, rows_of}
 
 -- ---- a text
 
@@ -47,15 +48,15 @@ module _ (t : List ℕ) (r : Opened) where
   opens_words ws e h = record { answers = h.answers ∙ sym (ap (λ o. found_in (bind o (λ s. bind (read_survey s) (λ ds. load_from ours 0 ds)))) e); usable = h.usable }
 
 -- a refusal, whatever the tables hold
-refused_to : (o : Outcome Rows) (m : Refusal) (en ad ro ma : List ℕ) → refused_by m ≡ found_in o → OpensTo o (record { answer = Err m; entries = en; adapters = ad; routes = ro; marks = ma })
+refused_to : (o : Outcome Rows) (m : Refusal) (tables : Tables) → refused_by m ≡ found_in o → OpensTo o (record { answer = Err m; entries = tables.entries.now; adapters = tables.adapters.now; routes = tables.routes.now; marks = tables.marks.now })
 unfolding opened_by UsedBy
-refused_to o m en ad ro ma e = record { answers = e; usable = omega arith }
+refused_to o m tables e = record { answers = e; usable = omega arith }
 
 -- ---- a survey
 
 -- the parts that are used are within tables of these lengths
 pub within : (l : Loaded) (e a d : ℕ) → Usable l e a d → length l.entries ≡ 4096 → length l.adapters ≡ 16384 → length l.routes ≡ 4096 → length l.marks ≡ 4096 → Held l e a d
-within l e a d u en ad ro ma = record {
+within l e a d u tables = record {
   entries = omega (arith, u.entries);
   routes = omega (arith, u.devices);
   marks = omega (arith, u.devices);
@@ -85,10 +86,10 @@ module _ (l : Loaded) (t s : List ℕ) (our : read_descriptions t ≡ value ours
   unfolding loaded surveyed bind
   surveyed_so = ap (λ o. bind o (λ ds. bind (read_survey s) (λ devices. load_from ds 0 devices))) our
 
-  pub not_loaded : (x : Refusal) → l.answer ≡ Err x → (en ad ro ma : List ℕ) → OpensTo (surveyed s) (record { answer = Err x; entries = en; adapters = ad; routes = ro; marks = ma })
+  pub not_loaded : (x : Refusal) → l.answer ≡ Err x → (tables : Tables) → OpensTo (surveyed s) (record { answer = Err x; entries = tables.entries.now; adapters = tables.adapters.now; routes = tables.routes.now; marks = tables.marks.now })
   unfolding found_in
-  not_loaded x g en ad ro ma =
-      refused_to (surveyed s) x en ad ro ma
+  not_loaded x g tables =
+      refused_to (surveyed s) x tables
       (load_refused l t s same (λ x. bind (answers_of x x.adapters) (λ wss. value (record { rows = x; tunnels = total_of wss }))) x g
       ∙ ap found_in surveyed_so)
 
@@ -119,7 +120,7 @@ again q m vs f = sym (refused_bind q (nothing {A = ℕ} {B = Found})) ∙ ap (λ
 -- reading was refused, and nothing else
 pub read_refused : (l : Loaded) (q : Refusal) (read : Result ℕ Refusal) → read ≡ Err q → Answers read l (Err q)
 read_refused l q read e = record {
-  refuses = λ m vs f. refused_to (refused m vs) q _ _ _ _ (again q m vs (sym (ap outcome e) ∙ f));
+  refuses = λ m vs f. refused_to (refused m vs) q _ (again q m vs (sym (ap outcome e) ∙ f));
   opens = λ m f. absurd (not_refused q m (sym (ap outcome e) ∙ f));
 }
 

@@ -13,7 +13,6 @@ use Rattle.adapter.specs.Adapter.{AdapterRow}
 use Rattle.tables.specs.Rows.{Rows}
 use Rattle.load.proofs.Order.{Holds, holds_value, holds_refused, holds_bind, holds_any, holds_cond}
 use Rattle.refusal.proofs.Laws.{outcome_ok, not_refused}
-use Rattle.walk.specs.Tables.{rows_of, Tabled}
 use Rattle.tunnel.specs.Tunnels.{Tunnel}
 use Rattle.tunnel.specs.Words.{tunnels_words}
 use Rattle.discovery.specs.Answers.{discover_at}
@@ -21,11 +20,13 @@ use Rattle.print.specs.Print.{most}
 use Rattle.printed.specs.Printed.{in_room}
 use Rattle.printed.proofs.Room.{lines_short, fits_room}
 use Rattle.report.specs.Report.{words_by, answer_of}
-use Rattle.report.specs.Tables.{Fits, page_by, page_at, page_outcome, output_by, Paged}
+use Rattle.report.specs.Tables.{page_by, page_at, page_outcome, output_by, Paged}
 use Rattle.refusal.specs.declared.Refusal.{Refusal}
 use Rattle.program.specs.Opened.{used_rows, tried, Opens}
 use Rattle.program.specs.declared.Opened.{Opened}
 use Rattle.program.proofs.Used.{used}
+use Rattle.tables.specs.declared.Tables.{Tables}
+use Rattle.tables.specs.Tables.{Fits, Tabled, rows_of}
 
 few_words : (o : Option (List Tunnel)) → Holds (λ ws. length ws ≤ 16384) (words_by o)
 unfolding words_by
@@ -41,11 +42,11 @@ short_page x zero (y ∷ ys) =
 short_page x (suc k) (y ∷ ys) = short_page x k ys
 
 -- on tables in order
-in_order : (en ad ro ma : List ℕ) (k : ℕ) (out : List ℕ) (r : Result (Result ℕ Refusal) Refusal) (out' : List ℕ) → Paged en ad ro ma k out r out' → Fits en ad ro → Tabled en ad ro → 704512 ≤ length out → length out < most
-    → (s : List ℕ) → page_at (rows_of en ad ro ma) k ≡ value s → (r ≡ Ok (Ok (length s))) × (take (length s) out' ≡ s)
+in_order : (tables : Tables) (k : ℕ) (out : List ℕ) (r : Result (Result ℕ Refusal) Refusal) (out' : List ℕ) → Paged tables k out r out' → Fits tables → Tabled tables → 704512 ≤ length out → length out < most
+    → (s : List ℕ) → page_at (rows_of tables) k ≡ value s → (r ≡ Ok (Ok (length s))) × (take (length s) out' ≡ s)
 unfolding page_at page_outcome output_by bind
-in_order en ad ro ma k out r out' w f es l m s e =
-    let x = rows_of en ad ro ma in
+in_order tables k out r out' w f es l m s e =
+    let x = rows_of tables in
     let q : page_outcome r ≡ value (length s) = w.answers f es ∙ ap (λ o. bind o (in_room (length out))) e ∙ fits_room s (length out) (omega (arith, (short_page x k x.adapters).by s e)) m in
     (bytes r q, ap (take (length s)) (w.writes f es ∙ ap (λ o. output_by (page_outcome r) o out) e ∙ ap (λ o. output_by o (value s) out) q) ∙ take-append_seam s (drop (length s) out))
   where
@@ -58,4 +59,4 @@ pub page_written : {t : List ℕ} {o : Opened} {e a d n : ℕ} → Opens t o →
     → (k : ℕ) (out : List ℕ) (r : Result (Result ℕ Refusal) Refusal) (out' : List ℕ) → Paged (take e o.entries) (take a o.adapters) (take d o.routes) (take d o.marks) k out r out' → 704512 ≤ length out → length out < most
     → (s : List ℕ) → page_at (used_rows o e a d) k ≡ value s → (r ≡ Ok (Ok (length s))) × (take (length s) out' ≡ s)
 unfolding used_rows
-page_written h g k out r out' w l m s p = let u = used h g in in_order _ _ _ _ k out r out' w u.fits u.order l m s p
+page_written h g k out r out' w l m s p = let u = used h g in in_order _ k out r out' w u.fits u.order l m s p

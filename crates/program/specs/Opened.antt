@@ -2,15 +2,14 @@
 use Rattle.std.specs.Prelude.{ℕ, ◌≤◌, ◌≡◌, List, take, Result, Ok, Err}
 use Rattle.refusal.specs.Outcome.{Outcome, value, bind}
 use Rattle.tables.specs.Rows.{Rows}
-use Rattle.walk.specs.Tables.{rows_of, Tabled}
 use Rattle.refusal.specs.Refusal.{refused_by}
 use Rattle.refusal.specs.declared.Refusal.{Refusal}
 use Rattle.load.specs.declared.Counts.{Counts}
 use Rattle.report.specs.Report.{answers_of, total_of}
-use Rattle.report.specs.Tables.{Fits}
 use Rattle.program.specs.Program.{rows_in}
 use Rattle.program.specs.declared.Opened.{Opened}
 use Rattle.program.specs.declared.Tried.{Tried}
+use Rattle.tables.specs.Tables.{Fits, Tabled, rows_of}
 
 -- rows, and the tunnels of all adapters, each of which was tried
 pub record Found : Type 0 where

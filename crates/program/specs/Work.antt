@@ -15,6 +15,7 @@ use Rattle.program.specs.declared.Opened.{Opened}
 use Rattle.program.specs.declared.Tried.{Tried}
 use Rattle.refusal.specs.Refusal.{outcome}
 use Rattle.refusal.specs.declared.Refusal.{Refusal}
+use Rattle.tables.specs.declared.Tables.{Tables}
 
 -- the whole outcome, of rows or of what is refused before there are any
 pub record OpensTo (o : Outcome Rows) (r : Opened) : Type 0 where
@@ -27,9 +28,9 @@ answer_with c (Ok n) = Ok (record { counts = c; tunnels = n })
 answer_with c (Err m) = Err m
 
 -- the answer of trying the parts of tables that are used
-pub record TriedUsed (en ad ro ma : List ℕ) (c : Counts) (r : Result Tried Refusal) : Type 0 where
+pub record TriedUsed (tables : Tables) (c : Counts) (r : Result Tried Refusal) : Type 0 where
   pub tried : Result ℕ Refusal
-  pub tries : Tries (take c.entries en) (take c.adapters ad) (take c.devices ro) (take c.devices ma) tried
+  pub tries : Tries (take c.entries tables.entries.now) (take c.adapters tables.adapters.now) (take c.devices tables.routes.now) (take c.devices tables.marks.now) tried
   pub same : r ≡ answer_with c tried
 
 -- loaded tables, with another answer

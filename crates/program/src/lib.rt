@@ -30,8 +30,7 @@ pub struct Opened {
 fn try_used(
     paths: &[u64],
     table: &[u64],
-    routes: &[u64],
-    marks: &[u64],
+    tables: &Tables,
     counts: Counts,
 ) -> Result<Tried, Refusal>
     requires { (counts.entries ≤ length paths.now) × (counts.adapters ≤ length table.now) × (counts.devices ≤ length routes.now) × (counts.devices ≤ length marks.now) }
@@ -58,7 +57,7 @@ fn try_loaded<'a>(
     ensures { OpensFrom (record { answer = told; entries = entries.now; adapters = adapters.now; routes = routes.now; marks = marks.now }) result }
 {
     let counts = told?;
-    try_used(entries, adapters, routes, marks, counts)
+    try_used(tables, counts)
 }
 
 // What reading a text refuses, or what loading and trying answer.
@@ -74,7 +73,7 @@ fn answer_of<'a>(
     ensures { Answers read (record { answer = told; entries = entries.now; adapters = adapters.now; routes = routes.now; marks = marks.now }) result }
 {
     read?;
-    try_loaded(told, entries, adapters, routes, marks)
+    try_loaded(told, tables)
 }
 
 // A text's tables with every adapter tried, or the first refusal: 2 for its length, 1, 4, then loading, then an adapter's own. Where the text is refused no words are loaded: with one way through, the compiler makes no copy of the tables for each.
@@ -101,9 +100,6 @@ pub fn open(text: &[u8]) -> Opened
     let marks = loaded.marks;
     Opened {
         answer,
-        entries,
-        adapters,
-        routes,
-        marks,
+        tables,
     }
 }

@@ -15,7 +15,7 @@ use Rattle.refusal.specs.declared.Refusal.{Refusal}
 use Rattle.refusal.proofs.Laws.{refused_bind}
 use Rattle.orbit.specs.Walk.{Spot.stand, found, arrive, walk_n, hops_n}
 use Rattle.orbit.proofs.Orbit.{reach_start, reach_stops}
-use Rattle.walk.specs.Walking.{Stand, End, walk_on, path_of}
+use Rattle.walk.specs.Walking.{End, walk_on, path_of}
 use Rattle.walk.specs.Rule.{settled, walk_from, stand_of}
 use Rattle.walk.specs.Tables.{Leaving, last_of, leaving_by, leaving_of, leaves}
 use Rattle.walk.proofs.Laws.{walk_ends, hopped, path_rule}
@@ -23,6 +23,7 @@ use Rattle.path.proofs.Writing.{refused_as_lem}
 use Rattle.receive.specs.Receive.{at, Receive, Receive.received, Receive.nothing, uses_ring, or_rest, among_hops, or_next}
 use Rattle.receive.specs.Tables.{Said.path, said_of}
 use Rattle.receive.specs.Work.{said, up_to}
+use Rattle.tables.specs.declared.Stand.{Stand}
 
 -- ---- HopIDs without an entry
 

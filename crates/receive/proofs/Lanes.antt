@@ -12,12 +12,13 @@ use Rattle.tables.specs.Rows.{EntryRow, DeviceRow, Rows, adapter_in, device_in}
 use Rattle.refusal.specs.Refusal.{refused_by}
 use Rattle.refusal.specs.declared.Refusal.{Refusal}
 use Rattle.refusal.proofs.Laws.{refused_bind}
-use Rattle.fabric.specs.Tables.{rows_with, InOrder}
 use Rattle.fabric.proofs.Laws.{device_fits}
 use Rattle.parents.specs.Parents.{parent_of}
 use Rattle.receive.specs.Receive.{Lane, Lane.lane, Lane.passed, Lane.dropped, or_dropped, hops_of, beneath, under_router, under_parent, taken, lane_of}
 use Rattle.receive.specs.Work.{lane_by, lane_at}
 use Rattle.refusal.specs.Refusal.{outcome}
+use Rattle.tables.specs.declared.Tables.{Tables}
+use Rattle.tables.specs.Tables.{InOrder, rows_of}
 
 -- ---- the HopIDs of an adapter
 
@@ -130,6 +131,6 @@ module _ (x : Rows) where
   stands_by p (Some d) = stands_cond (taken d) _ (stands_bind _ (parent_of x p d) _ (stands_parent d))
 
 -- in tables in order, its place fits a key
-pub lane_fits : (es : List EntryRow) (ad ro ma : List ℕ) (p q n lo hi : ℕ) → InOrder ad ro → value (lane q n lo hi) ≡ lane_at (rows_with es ad ro ma) p → q < 65536
-unfolding lane_at rows_with
-lane_fits es ad ro ma p q n lo hi k e = let w = stands_by (rows_with es ad ro ma) p _ q n lo hi (sym e) in device_fits ad ro ma q w.0 k w.1
+pub lane_fits : (tables : Tables) (p q n lo hi : ℕ) → InOrder tables → value (lane q n lo hi) ≡ lane_at (rows_of tables) p → q < 65536
+unfolding lane_at rows_of
+lane_fits tables p q n lo hi k e = let w = stands_by (rows_of tables) p _ q n lo hi (sym e) in device_fits tables q w.0 k w.1

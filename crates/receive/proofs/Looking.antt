@@ -12,12 +12,11 @@ use Rattle.tables.specs.Rows.{EntryRow, entry_in}
 use Rattle.tables.specs.Packed.{entry_word, entries_in}
 use Rattle.tables.specs.Found.{entry_found}
 use Rattle.refusal.specs.declared.Refusal.{Refusal}
-use Rattle.fabric.specs.Tables.{rows_with}
 use Rattle.search.specs.Ahead.{HopAhead}
 use Rattle.search.proofs.Laws.{past_hops}
 use Rattle.search.specs.declared.HopEntry.{HopEntry}
 use Rattle.walk.specs.Rule.{walk_from}
-use Rattle.walk.specs.Tables.{rows_of, Tabled, Leaving, leaves, Tallied, Onward, tally_outcome, hops_by as hops_of_walk}
+use Rattle.walk.specs.Tables.{Leaving, leaves, Tallied, Onward, tally_outcome, hops_by as hops_of_walk}
 use Rattle.receive.specs.Receive.{at, Receive, or_rest, or_next}
 use Rattle.receive.specs.Tables.{Said.path, received_outcome, path_of, said_from, walk_said}
 use Rattle.receive.specs.Work.{said, up_to, Stepped, end_hops, Looked}
@@ -26,27 +25,29 @@ use Rattle.receive.proofs.Hops.{leap, over, first_walk, walk_refused, walk_absen
 use Rattle.search.specs.Ahead.{hop_entry}
 use Rattle.walk.specs.Tables.{walked_to}
 use Rattle.walk.specs.declared.Walked.{Walked}
+use Rattle.tables.specs.declared.Tables.{Tables}
+use Rattle.tables.specs.Tables.{Tabled, rows_of}
 
-module _ (en ad ro ma : List ℕ) (ring q n h hi : ℕ) where
+module _ (tables : Tables) (ring q n h hi : ℕ) where
   -- none is left
-  looked_none : (Tabled en ad ro → q < 65536 → (i : ℕ) → h ≤ i → i ≤ hi → entry_in (entries_in en) q n i ≡ None) → Looked en ad ro ma ring q n h hi (Ok step.Over)
-  unfolding Stepped end_hops rows_of rows_with
+  looked_none : (Tabled tables → q < 65536 → (i : ℕ) → h ≤ i → i ≤ hi → entry_in (entries_in tables.entries.now) q n i ≡ None) → Looked tables ring q n h hi (Ok step.Over)
+  unfolding Stepped end_hops rows_of
   looked_none g = record {
-    stepped = λ t l v. over (rows_of en ad ro ma) v q n h hi (g t l);
+    stepped = λ t l v. over (rows_of tables) v q n h hi (g t l);
     further = λ k e. absurd (let z : ◌≡◌ {A = ℕ} 0 1 = cc in omega arith);
     passed = λ k o e. absurd (let z : ◌≡◌ {A = ℕ} 0 1 = cc in omega arith);
     few = omega arith;
   }
 
-  pub looked_large : 65535 < h → Looked en ad ro ma ring q n h hi (Ok step.Over)
-  looked_large l = looked_none (λ t m i a b. past_hops en q n i (omega arith))
+  pub looked_large : 65535 < h → Looked tables ring q n h hi (Ok step.Over)
+  looked_large l = looked_none (λ t m i a b. past_hops tables.entries.now q n i (omega arith))
 
-  module _ {u : Option HopEntry} (ahead : HopAhead en q n h u) where
-    pub looked_over : u ≡ None → Looked en ad ro ma ring q n h hi (Ok step.Over)
+  module _ {u : Option HopEntry} (ahead : HopAhead tables.entries.now q n h u) where
+    pub looked_over : u ≡ None → Looked tables ring q n h hi (Ok step.Over)
     looked_over e = looked_none (λ t l i a b. ahead.over l t.entry_order e i a)
 
     module _ {k out x : ℕ} (e : u ≡ Some (hop_entry k out x)) where
-      pub looked_past : hi < k → Looked en ad ro ma ring q n h hi (Ok step.Over)
+      pub looked_past : hi < k → Looked tables ring q n h hi (Ok step.Over)
       looked_past m = looked_none (λ t l i a b. ahead.first l t.entry_order k out x e i a (omega arith))
 
       -- a HopID has 16 bits
@@ -55,20 +56,20 @@ module _ (en ad ro ma : List ℕ) (ring q n h hi : ℕ) where
       narrow = let held = (ahead.found k out x e).held _ refl in omega (arith, ap (λ (r : EntryRow). r.in_hop) held.2)
 
       -- at the walk from the HopID that is next
-      module _ (below : k ≤ hi) {w : Result (Option Walked) Refusal} (onward : Onward en ad ro ma q out x w) where
-        tally : Tallied en ad ro ma (record { place = q; adapter = n; hop_id = k }) w
+      module _ (below : k ≤ hi) {w : Result (Option Walked) Refusal} (onward : Onward tables q out x w) where
+        tally : Tallied tables (record { place = q; adapter = n; hop_id = k }) w
         tally = onward.ends n k (ahead.found k out x e)
 
-        there : Tabled en ad ro → q < 65536 → (v : ℕ) → up_to (rows_of en ad ro ma) v q n h hi ≡ bind (walk_from (rows_of en ad ro ma) (at q n k)) (or_rest v (up_to (rows_of en ad ro ma) v q n (k + 1) hi))
-        unfolding rows_of rows_with
-        there t l v = leap (rows_of en ad ro ma) v q n h k hi (ahead.from k out x e) (omega arith) (ahead.first l t.entry_order k out x e) ∙ first_walk (rows_of en ad ro ma) v q n k hi below
+        there : Tabled tables → q < 65536 → (v : ℕ) → up_to (rows_of tables) v q n h hi ≡ bind (walk_from (rows_of tables) (at q n k)) (or_rest v (up_to (rows_of tables) v q n (k + 1) hi))
+        unfolding rows_of
+        there t l v = leap (rows_of tables) v q n h k hi (ahead.from k out x e) (omega arith) (ahead.first l t.entry_order k out x e) ∙ first_walk (rows_of tables) v q n k hi below
 
-        come : (o : Result (Option Walked) Refusal) → w ≡ o → Tabled en ad ro → q < 65536 → tally_outcome o ≡ bind (walk_from (rows_of en ad ro ma) (at q n k)) (λ o. value (leaves o))
+        come : (o : Result (Option Walked) Refusal) → w ≡ o → Tabled tables → q < 65536 → tally_outcome o ≡ bind (walk_from (rows_of tables) (at q n k)) (λ o. value (leaves o))
         unfolding at
         come o g t l = ap tally_outcome (sym g) ∙ tally.answers t l
 
         -- on to the one after it
-        pub looked_absent : w ≡ (Ok None) → Looked en ad ro ma ring q n h hi (Ok (step.On (k + 1)))
+        pub looked_absent : w ≡ (Ok None) → Looked tables ring q n h hi (Ok (step.On (k + 1)))
         unfolding Stepped end_hops tally_outcome
         looked_absent g = record {
           stepped = λ t l v. there t l v ∙ walk_absent v _ _ (come (Ok None) g t l);
@@ -77,7 +78,7 @@ module _ (en ad ro ma : List ℕ) (ring q n h hi : ℕ) where
           few = omega arith;
         }
 
-        pub looked_refused : (r : Refusal) → w ≡ Err r → Looked en ad ro ma ring q n h hi (Err r)
+        pub looked_refused : (r : Refusal) → w ≡ Err r → Looked tables ring q n h hi (Err r)
         unfolding tally_outcome Stepped end_hops
         looked_refused r g = record {
           stepped = λ t l v after. walk_refused v _ _ r after (come (Err r) g t l) ∙ ap (λ (o : Outcome Receive). said (bind o (or_next after))) (sym (there t l v));
@@ -88,24 +89,24 @@ module _ (en ad ro ma : List ℕ) (ring q n h hi : ℕ) where
 
         module _ (m p b o : ℕ) (g : w ≡ walked_to m p b o) where
           -- the answer for the HopID that it leaves by
-          fits : Tabled en ad ro → q < 65536 → (v : ℕ) (after : Outcome Receive) → o ≡ v → walk_said (rows_of en ad ro ma) v (at q n k) ≡ said (bind (up_to (rows_of en ad ro ma) v q n h hi) (or_next after))
+          fits : Tabled tables → q < 65536 → (v : ℕ) (after : Outcome Receive) → o ≡ v → walk_said (rows_of tables) v (at q n k) ≡ said (bind (up_to (rows_of tables) v q n h hi) (or_next after))
           unfolding tally_outcome walk_said said_from bind
           fits t l v after f =
               ap (λ (z : Outcome (Option Leaving)). bind z (λ y. value (said_from v (at q n k) y))) (sym (come (walked_to m p b o) g t l))
               ∙ ap (λ (z : ℕ). value (path (at q n k) (record { hops = m; place = p; adapter = b; hop_id = z }))) (sym f)
-              ∙ walk_fits v _ (rows_of en ad ro ma) (at q n k) _ after (come (walked_to m p b o) g t l) f
+              ∙ walk_fits v _ (rows_of tables) (at q n k) _ after (come (walked_to m p b o) g t l) f
               ∙ ap (λ (z : Outcome Receive). said (bind z (or_next after))) (sym (there t l v))
 
           -- by any ring: the walk's, or what comes after
-          told : Tabled en ad ro → q < 65536 → (v : ℕ) (after : Outcome Receive) → said (bind (up_to (rows_of en ad ro ma) v q n h hi) (or_next after)) ≡ cond (eqb o v) (walk_said (rows_of en ad ro ma) v (at q n k)) (said (bind (up_to (rows_of en ad ro ma) v q n (k + 1) hi) (or_next after)))
+          told : Tabled tables → q < 65536 → (v : ℕ) (after : Outcome Receive) → said (bind (up_to (rows_of tables) v q n h hi) (or_next after)) ≡ cond (eqb o v) (walk_said (rows_of tables) v (at q n k)) (said (bind (up_to (rows_of tables) v q n (k + 1) hi) (or_next after)))
           unfolding tally_outcome
           told t l v after = go (eqb o v) refl
             where
-              go : (c : Bool) → eqb o v ≡ c → said (bind (up_to (rows_of en ad ro ma) v q n h hi) (or_next after)) ≡ cond c (walk_said (rows_of en ad ro ma) v (at q n k)) (said (bind (up_to (rows_of en ad ro ma) v q n (k + 1) hi) (or_next after)))
+              go : (c : Bool) → eqb o v ≡ c → said (bind (up_to (rows_of tables) v q n h hi) (or_next after)) ≡ cond c (walk_said (rows_of tables) v (at q n k)) (said (bind (up_to (rows_of tables) v q n (k + 1) hi) (or_next after)))
               go true f = sym (fits t l v after (eqb-true o v f))
               go false f = ap (λ (z : Outcome Receive). said (bind z (or_next after))) (there t l v ∙ walk_other v _ _ _ (come (walked_to m p b o) g t l) (λ z. true≢false (sym (eq-eqb o v z) ∙ f)))
 
-          pub looked_other : (o ≡ ring → ⊥) → o < 65536 → Looked en ad ro ma ring q n h hi (Ok (step.Past k o))
+          pub looked_other : (o ≡ ring → ⊥) → o < 65536 → Looked tables ring q n h hi (Ok (step.Past k o))
           unfolding Stepped end_hops
           looked_other f narrow-too = record {
             stepped = told;
@@ -114,12 +115,12 @@ module _ (en ad ro ma : List ℕ) (ring q n h hi : ℕ) where
             few = omega arith;
           }
 
-          pub looked_fits : o ≡ ring → Looked en ad ro ma ring q n h hi (Ok (step.Fits (path_of q n k m p b)))
+          pub looked_fits : o ≡ ring → Looked tables ring q n h hi (Ok (step.Fits (path_of q n k m p b)))
           unfolding tally_outcome Stepped end_hops received_outcome hops_of_walk
           looked_fits f = record {
             stepped = λ t l after.
                 ap (λ (z : ℕ). value (path (at q n k) (record { hops = m; place = p; adapter = b; hop_id = z }))) (sym f)
-                ∙ walk_fits ring _ (rows_of en ad ro ma) (at q n k) _ after (come (walked_to m p b o) g t l) f
+                ∙ walk_fits ring _ (rows_of tables) (at q n k) _ after (come (walked_to m p b o) g t l) f
                 ∙ ap (λ (z : Outcome Receive). said (bind z (or_next after))) (sym (there t l ring));
             further = λ j i. absurd (let z : ◌≡◌ {A = ℕ} 0 1 = cc in omega arith);
             passed = λ j i z. absurd (let y : ◌≡◌ {A = ℕ} 0 1 = cc in omega arith);

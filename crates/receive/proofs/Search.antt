@@ -18,9 +18,6 @@ use Rattle.tables.specs.Packed.{entries_in}
 use Rattle.tables.proofs.Laws.{device_past_routes}
 use Rattle.refusal.specs.declared.Refusal.{Refusal}
 use Rattle.refusal.proofs.Laws.{refused_bind}
-use Rattle.fabric.specs.Tables.{rows_with, InOrder}
-use Rattle.walk.specs.Tables.{rows_of, Tabled}
-use Rattle.walk.specs.Walking.{Stand}
 use Rattle.receive.specs.Receive.{at, Lane, lane_of, Receive, Receive.nothing, among_hops, at_lane, or_next, among_devices, receive}
 use Rattle.receive.specs.Tables.{Said, said_of, received_outcome, hops_by, note_stand, note_ring, walk_said, by_notes, is_path, Searches}
 use Rattle.receive.specs.Work.{lane_outcome, LaneIs, lane_by, lane_at, said, up_to, Stepped, end_hops, Looked, PutNote}
@@ -32,6 +29,9 @@ use Rattle.receive.specs.declared.ReceivePath.{ReceivePath}
 use Rattle.receive.specs.declared.Step.{Step}
 use Rattle.receive.specs.declared.Step.TheVariants as step
 use Rattle.receive.proofs.Lanes.{lane_fits}
+use Rattle.tables.specs.declared.Stand.{Stand}
+use Rattle.tables.specs.declared.Tables.{Tables}
+use Rattle.tables.specs.Tables.{InOrder, Tabled, rows_of}
 
 -- ---- the devices from a place on
 
@@ -80,7 +80,7 @@ module _ (x : Rows) (ring i : ℕ) where
       go None e = step_none e
       go (Some d) e = step_some d e
 
-in_order : {en ad ro : List ℕ} → Tabled en ad ro → InOrder ad ro
+in_order : {tables : Tables} → Tabled tables → InOrder tables
 in_order t = record { adapters = t.adapter_order; devices = t.devices }
 
 -- ---- notes
@@ -143,141 +143,141 @@ written_more ring ws noted notes w noted' notes' x n p = go (dec_lt noted (lengt
         }
 
 -- nothing is found yet, and for each ring the notes and then the devices from place i on give the whole
-pub record Seeking (en ad ro ma : List ℕ) (ring i : ℕ) (noted : ℕ) (notes : List ℕ) : Type 0 where
+pub record Seeking (tables : Tables) (ring i : ℕ) (noted : ℕ) (notes : List ℕ) : Type 0 where
   pub ws : List ℕ
   pub written : Written ring ws noted notes
-  pub whole : Tabled en ad ro → (v : ℕ) → said (receive (rows_of en ad ro ma) v) ≡ by_notes (rows_of en ad ro ma) v ws (said (left (rows_of en ad ro ma) v i))
+  pub whole : Tabled tables → (v : ℕ) → said (receive (rows_of tables) v) ≡ by_notes (rows_of tables) v ws (said (left (rows_of tables) v i))
 
 -- nothing is found yet, and HopIDs h to hi of adapter n of the router at place q give the whole after the notes, with the devices after place i
-pub record Among (en ad ro ma : List ℕ) (ring i q n h hi : ℕ) (noted : ℕ) (notes : List ℕ) : Type 0 where
-  pub fits : Tabled en ad ro → q < 65536
+pub record Among (tables : Tables) (ring i q n h hi : ℕ) (noted : ℕ) (notes : List ℕ) : Type 0 where
+  pub fits : Tabled tables → q < 65536
   pub ws : List ℕ
   pub written : Written ring ws noted notes
-  pub whole : Tabled en ad ro → (v : ℕ) → said (receive (rows_of en ad ro ma) v) ≡ by_notes (rows_of en ad ro ma) v ws (said (bind (up_to (rows_of en ad ro ma) v q n h hi) (or_next (left (rows_of en ad ro ma) v (i + 1)))))
+  pub whole : Tabled tables → (v : ℕ) → said (receive (rows_of tables) v) ≡ by_notes (rows_of tables) v ws (said (bind (up_to (rows_of tables) v q n h hi) (or_next (left (rows_of tables) v (i + 1)))))
 
-module _ (en ad ro ma : List ℕ) (ring : ℕ) where
+module _ (tables : Tables) (ring : ℕ) where
   -- what is answered is the rest of the search for each ring
-  ends : (a : Result Received Refusal) (ws : List ℕ) (noted : ℕ) (notes : List ℕ) → Written ring ws noted notes → hops_by a ≤ length en → (Tabled en ad ro → (v : ℕ) → said (receive (rows_of en ad ro ma) v) ≡ by_notes (rows_of en ad ro ma) v ws (received_outcome v a))
-      → Searches (length notes) en ad ro ma ring a noted notes
+  ends : (a : Result Received Refusal) (ws : List ℕ) (noted : ℕ) (notes : List ℕ) → Written ring ws noted notes → hops_by a ≤ length tables.entries.now → (Tabled tables → (v : ℕ) → said (receive (rows_of tables) v) ≡ by_notes (rows_of tables) v ws (received_outcome v a))
+      → Searches (length notes) tables ring a noted notes
   ends a ws noted notes w few whole = record {
-    comes = record { answers = λ t. sym (whole t ring ∙ notes_none (rows_of en ad ro ma) ring ws (received_outcome ring a) w.others); few = few };
+    comes = record { answers = λ t. sym (whole t ring ∙ notes_none (rows_of tables) ring ws (received_outcome ring a) w.others); few = few };
     within = w.within;
-    tells = λ p l. record { tells = λ t v. whole t v ∙ ap (λ (z : List ℕ). by_notes (rows_of en ad ro ma) v z (received_outcome v a)) (sym (w.kept l)) };
+    tells = λ p l. record { tells = λ t v. whole t v ∙ ap (λ (z : List ℕ). by_notes (rows_of tables) v z (received_outcome v a)) (sym (w.kept l)) };
   }
 
   -- the room is the list's length
-  pub in_room_lem : {room noted : ℕ} {a : Result Received Refusal} {notes : List ℕ} → Searches (length notes) en ad ro ma ring a noted notes → length notes ≡ room → Searches room en ad ro ma ring a noted notes
-  in_room_lem {noted = noted} {a = a} {notes = notes} s e = subst (λ (n : ℕ). Searches n en ad ro ma ring a noted notes) e s
+  pub in_room_lem : {room noted : ℕ} {a : Result Received Refusal} {notes : List ℕ} → Searches (length notes) tables ring a noted notes → length notes ≡ room → Searches room tables ring a noted notes
+  in_room_lem {noted = noted} {a = a} {notes = notes} s e = subst (λ (n : ℕ). Searches n tables ring a noted notes) e s
 
-  pub seek_start : (notes : List ℕ) → Seeking en ad ro ma ring 0 0 notes
+  pub seek_start : (notes : List ℕ) → Seeking tables ring 0 0 notes
   unfolding receive by_notes Others
   seek_start notes = record { ws = []; written = record { others = omega arith; kept = λ l. refl; within = omega arith }; whole = λ t v. refl }
 
-  module _ {i : ℕ} {noted : ℕ} {notes : List ℕ} (s : Seeking en ad ro ma ring i noted notes) where
-    pub seek_end : length ro ≤ i → Searches (length notes) en ad ro ma ring (Ok answer.Nothing) noted notes
-    unfolding received_outcome hops_by bind said_of rows_of rows_with
+  module _ {i : ℕ} {noted : ℕ} {notes : List ℕ} (s : Seeking tables ring i noted notes) where
+    pub seek_end : length tables.routes.now ≤ i → Searches (length notes) tables ring (Ok answer.Nothing) noted notes
+    unfolding received_outcome hops_by bind said_of rows_of
     seek_end l = ends (Ok answer.Nothing) s.ws noted notes s.written (omega arith) (λ t v.
-        s.whole t v ∙ ap (λ (o : Outcome Receive). by_notes (rows_of en ad ro ma) v s.ws (said o)) (left_past (rows_of en ad ro ma) v i (device_past_routes 0 ro ma i l)))
+        s.whole t v ∙ ap (λ (o : Outcome Receive). by_notes (rows_of tables) v s.ws (said o)) (left_past (rows_of tables) v i (device_past_routes 0 tables.routes.now tables.marks.now i l)))
 
     -- by the lane of the device at place i
-    module _ {u : Result LaneFound Refusal} (is : LaneIs ad ro ma (λ x. lane_at x i) u) where
-      lane_is : (f : Result LaneFound Refusal) → u ≡ f → Tabled en ad ro → lane_outcome f ≡ lane_at (rows_of en ad ro ma) i
+    module _ {u : Result LaneFound Refusal} (is : LaneIs tables (λ x. lane_at x i) u) where
+      lane_is : (f : Result LaneFound Refusal) → u ≡ f → Tabled tables → lane_outcome f ≡ lane_at (rows_of tables) i
       unfolding rows_of
-      lane_is f e t = ap lane_outcome (sym e) ∙ is.is (in_order t) (entries_in en)
+      lane_is f e t = ap lane_outcome (sym e) ∙ is.is (in_order t)
 
-      seek_lane : (f : Result LaneFound Refusal) → u ≡ f → Tabled en ad ro → (v : ℕ) → said (receive (rows_of en ad ro ma) v) ≡ by_notes (rows_of en ad ro ma) v s.ws (said (bind (bind (lane_outcome f) (at_lane (rows_of en ad ro ma) v)) (or_next (left (rows_of en ad ro ma) v (i + 1)))))
+      seek_lane : (f : Result LaneFound Refusal) → u ≡ f → Tabled tables → (v : ℕ) → said (receive (rows_of tables) v) ≡ by_notes (rows_of tables) v s.ws (said (bind (bind (lane_outcome f) (at_lane (rows_of tables) v)) (or_next (left (rows_of tables) v (i + 1)))))
       seek_lane f e t v =
           s.whole t v
-          ∙ ap (λ (o : Outcome Receive). by_notes (rows_of en ad ro ma) v s.ws (said o)) (left_step (rows_of en ad ro ma) v i)
-          ∙ ap (λ (o : Outcome Lane). by_notes (rows_of en ad ro ma) v s.ws (said (bind (bind o (at_lane (rows_of en ad ro ma) v)) (or_next (left (rows_of en ad ro ma) v (i + 1)))))) (sym (lane_is f e t))
+          ∙ ap (λ (o : Outcome Receive). by_notes (rows_of tables) v s.ws (said o)) (left_step (rows_of tables) v i)
+          ∙ ap (λ (o : Outcome Lane). by_notes (rows_of tables) v s.ws (said (bind (bind o (at_lane (rows_of tables) v)) (or_next (left (rows_of tables) v (i + 1)))))) (sym (lane_is f e t))
 
-      pub seek_refused : (a : Refusal) → u ≡ Err a → Searches (length notes) en ad ro ma ring (Err a) noted notes
+      pub seek_refused : (a : Refusal) → u ≡ Err a → Searches (length notes) tables ring (Err a) noted notes
       unfolding received_outcome hops_by lane_outcome
       seek_refused a e = ends (Err a) s.ws noted notes s.written (omega arith) (λ t v.
           seek_lane (Err a) e t v
-          ∙ ap (λ (o : Outcome Receive). by_notes (rows_of en ad ro ma) v s.ws (said (bind o (or_next (left (rows_of en ad ro ma) v (i + 1)))))) (refused_bind a (at_lane (rows_of en ad ro ma) v))
-          ∙ ap (λ (o : Outcome Receive). by_notes (rows_of en ad ro ma) v s.ws (said o)) (refused_bind a (or_next (left (rows_of en ad ro ma) v (i + 1))))
-          ∙ ap (λ (o : Outcome Said). by_notes (rows_of en ad ro ma) v s.ws o) (refused_bind a (λ y. value (said_of y))))
+          ∙ ap (λ (o : Outcome Receive). by_notes (rows_of tables) v s.ws (said (bind o (or_next (left (rows_of tables) v (i + 1)))))) (refused_bind a (at_lane (rows_of tables) v))
+          ∙ ap (λ (o : Outcome Receive). by_notes (rows_of tables) v s.ws (said o)) (refused_bind a (or_next (left (rows_of tables) v (i + 1))))
+          ∙ ap (λ (o : Outcome Said). by_notes (rows_of tables) v s.ws o) (refused_bind a (λ y. value (said_of y))))
 
-      pub seek_lost : u ≡ (Ok found.Dropped) → Searches (length notes) en ad ro ma ring (Ok answer.Lost) noted notes
+      pub seek_lost : u ≡ (Ok found.Dropped) → Searches (length notes) tables ring (Ok answer.Lost) noted notes
       unfolding received_outcome hops_by lane_outcome bind at_lane or_next said_of
       seek_lost e = ends (Ok answer.Lost) s.ws noted notes s.written (omega arith) (λ t v. seek_lane (Ok found.Dropped) e t v)
 
-      pub seek_passed : u ≡ (Ok found.Passed) → Seeking en ad ro ma ring (i + 1) noted notes
+      pub seek_passed : u ≡ (Ok found.Passed) → Seeking tables ring (i + 1) noted notes
       unfolding lane_outcome bind at_lane or_next
       seek_passed e = record { ws = s.ws; written = s.written; whole = λ t v. seek_lane (Ok found.Passed) e t v }
 
-      pub seek_at : (q n lo hi : ℕ) → u ≡ Ok (found.At q n lo hi) → Among en ad ro ma ring i q n lo hi noted notes
+      pub seek_at : (q n lo hi : ℕ) → u ≡ Ok (found.At q n lo hi) → Among tables ring i q n lo hi noted notes
       unfolding lane_outcome bind at_lane up_to rows_of
       seek_at q n lo hi e = record {
-        fits = λ t. lane_fits (entries_in en) ad ro ma i q n lo hi (in_order t) (lane_is (Ok (found.At q n lo hi)) e t);
+        fits = λ t. lane_fits tables i q n lo hi (in_order t) (lane_is (Ok (found.At q n lo hi)) e t);
         ws = s.ws;
         written = s.written;
         whole = λ t v. seek_lane (Ok (found.At q n lo hi)) e t v;
       }
 
-  module _ {i q n h hi : ℕ} {noted : ℕ} {notes : List ℕ} (s : Among en ad ro ma ring i q n h hi noted notes) where
+  module _ {i q n h hi : ℕ} {noted : ℕ} {notes : List ℕ} (s : Among tables ring i q n h hi noted notes) where
     -- none is left
-    among_none : (Tabled en ad ro → (v : ℕ) → up_to (rows_of en ad ro ma) v q n h hi ≡ value nothing) → Seeking en ad ro ma ring (i + 1) noted notes
+    among_none : (Tabled tables → (v : ℕ) → up_to (rows_of tables) v q n h hi ≡ value nothing) → Seeking tables ring (i + 1) noted notes
     unfolding bind or_next
     among_none g = record {
       ws = s.ws;
       written = s.written;
-      whole = λ t v. s.whole t v ∙ ap (λ (o : Outcome Receive). by_notes (rows_of en ad ro ma) v s.ws (said (bind o (or_next (left (rows_of en ad ro ma) v (i + 1)))))) (g t v);
+      whole = λ t v. s.whole t v ∙ ap (λ (o : Outcome Receive). by_notes (rows_of tables) v s.ws (said (bind o (or_next (left (rows_of tables) v (i + 1)))))) (g t v);
     }
 
-    pub among_end : hi < h → Seeking en ad ro ma ring (i + 1) noted notes
+    pub among_end : hi < h → Seeking tables ring (i + 1) noted notes
     unfolding up_to among_hops
-    among_end l = among_none (λ t v. ap (among_hops (rows_of en ad ro ma) v q n h) (let z : hi + 1 - h ≡ 0 = omega arith in z))
+    among_end l = among_none (λ t v. ap (among_hops (rows_of tables) v q n h) (let z : hi + 1 - h ≡ 0 = omega arith in z))
 
     -- by the look at the next of them
-    module _ {u : Result Step Refusal} (k : Looked en ad ro ma ring q n h hi u) where
-      look : (f : Result Step Refusal) → u ≡ f → Tabled en ad ro → Stepped (rows_of en ad ro ma) ring q n h hi f
-      look f e t = subst (Stepped (rows_of en ad ro ma) ring q n h hi) e (k.stepped t (s.fits t))
+    module _ {u : Result Step Refusal} (k : Looked tables ring q n h hi u) where
+      look : (f : Result Step Refusal) → u ≡ f → Tabled tables → Stepped (rows_of tables) ring q n h hi f
+      look f e t = subst (Stepped (rows_of tables) ring q n h hi) e (k.stepped t (s.fits t))
 
-      pub among_over : u ≡ (Ok step.Over) → Seeking en ad ro ma ring (i + 1) noted notes
+      pub among_over : u ≡ (Ok step.Over) → Seeking tables ring (i + 1) noted notes
       unfolding Stepped
       among_over e = among_none (look (Ok step.Over) e)
 
-      pub among_on : (j : ℕ) → u ≡ Ok (step.On j) → Among en ad ro ma ring i q n j hi noted notes
+      pub among_on : (j : ℕ) → u ≡ Ok (step.On j) → Among tables ring i q n j hi noted notes
       unfolding Stepped
       among_on j e = record {
         fits = s.fits;
         ws = s.ws;
         written = s.written;
-        whole = λ t v. s.whole t v ∙ ap (λ (o : Outcome Receive). by_notes (rows_of en ad ro ma) v s.ws (said (bind o (or_next (left (rows_of en ad ro ma) v (i + 1)))))) (look (Ok (step.On j)) e t v);
+        whole = λ t v. s.whole t v ∙ ap (λ (o : Outcome Receive). by_notes (rows_of tables) v s.ws (said (bind o (or_next (left (rows_of tables) v (i + 1)))))) (look (Ok (step.On j)) e t v);
       }
 
       -- a path is passed, and noted
-      pub among_past : (j o : ℕ) → u ≡ Ok (step.Past j o) → n < 256 → (w noted' : ℕ) (notes' : List ℕ) → note_ring w ≡ o → (q < 65536 → w ≡ q * 1099511627776 + n * 4294967296 + j * 65536 + o) → PutNote w noted notes noted' notes' → Among en ad ro ma ring i q n (j + 1) hi noted' notes'
+      pub among_past : (j o : ℕ) → u ≡ Ok (step.Past j o) → n < 256 → (w noted' : ℕ) (notes' : List ℕ) → note_ring w ≡ o → (q < 65536 → w ≡ q * 1099511627776 + n * 4294967296 + j * 65536 + o) → PutNote w noted notes noted' notes' → Among tables ring i q n (j + 1) hi noted' notes'
       unfolding Stepped
       among_past j o e b w noted' notes' leaves is put = record {
         fits = s.fits;
         ws = s.ws ++ w ∷ [];
         written = written_more ring s.ws noted notes w noted' notes' s.written (λ z. at_most.3 (sym leaves ∙ z)) put;
-        whole = λ t v. s.whole t v ∙ ap (λ (z : Outcome Said). by_notes (rows_of en ad ro ma) v s.ws z) (this t v) ∙ sym (notes_more (rows_of en ad ro ma) v s.ws w _);
+        whole = λ t v. s.whole t v ∙ ap (λ (z : Outcome Said). by_notes (rows_of tables) v s.ws z) (this t v) ∙ sym (notes_more (rows_of tables) v s.ws w _);
       }
         where
           at_most : (h ≤ j) × (j < 65536) × (o < 65536) × (o ≡ ring → ⊥)
           at_most = k.passed j o e
 
           -- it is the answer for the HopID that it leaves by
-          this : Tabled en ad ro → (v : ℕ) → said (bind (up_to (rows_of en ad ro ma) v q n h hi) (or_next (left (rows_of en ad ro ma) v (i + 1))))
-              ≡ cond (eqb (note_ring w) v) (walk_said (rows_of en ad ro ma) v (note_stand w)) (said (bind (up_to (rows_of en ad ro ma) v q n (j + 1) hi) (or_next (left (rows_of en ad ro ma) v (i + 1)))))
+          this : Tabled tables → (v : ℕ) → said (bind (up_to (rows_of tables) v q n h hi) (or_next (left (rows_of tables) v (i + 1))))
+              ≡ cond (eqb (note_ring w) v) (walk_said (rows_of tables) v (note_stand w)) (said (bind (up_to (rows_of tables) v q n (j + 1) hi) (or_next (left (rows_of tables) v (i + 1)))))
           this t v =
               let p = note_stand_lem w q n j o (is (s.fits t)) (s.fits t) b at_most.1 at_most.2 in
-              look (Ok (step.Past j o)) e t v (left (rows_of en ad ro ma) v (i + 1))
-              ∙ ap (λ (z : ℕ). cond (eqb z v) (walk_said (rows_of en ad ro ma) v (at q n j)) (said (bind (up_to (rows_of en ad ro ma) v q n (j + 1) hi) (or_next (left (rows_of en ad ro ma) v (i + 1)))))) (sym leaves)
-              ∙ ap (λ (z : Stand). cond (eqb (note_ring w) v) (walk_said (rows_of en ad ro ma) v z) (said (bind (up_to (rows_of en ad ro ma) v q n (j + 1) hi) (or_next (left (rows_of en ad ro ma) v (i + 1)))))) (sym p)
+              look (Ok (step.Past j o)) e t v (left (rows_of tables) v (i + 1))
+              ∙ ap (λ (z : ℕ). cond (eqb z v) (walk_said (rows_of tables) v (at q n j)) (said (bind (up_to (rows_of tables) v q n (j + 1) hi) (or_next (left (rows_of tables) v (i + 1)))))) (sym leaves)
+              ∙ ap (λ (z : Stand). cond (eqb (note_ring w) v) (walk_said (rows_of tables) v z) (said (bind (up_to (rows_of tables) v q n (j + 1) hi) (or_next (left (rows_of tables) v (i + 1)))))) (sym p)
 
-      pub among_fits : (p : ReceivePath) → u ≡ Ok (step.Fits p) → Searches (length notes) en ad ro ma ring (Ok (answer.Path p)) noted notes
+      pub among_fits : (p : ReceivePath) → u ≡ Ok (step.Fits p) → Searches (length notes) tables ring (Ok (answer.Path p)) noted notes
       unfolding Stepped end_hops hops_by is_path
       among_fits p e = record {
-        comes = record { answers = λ t. look (Ok (step.Fits p)) e t _ ∙ sym (s.whole t ring ∙ notes_none (rows_of en ad ro ma) ring s.ws _ s.written.others); few = omega (arith, k.few, ap end_hops e) };
+        comes = record { answers = λ t. look (Ok (step.Fits p)) e t _ ∙ sym (s.whole t ring ∙ notes_none (rows_of tables) ring s.ws _ s.written.others); few = omega (arith, k.few, ap end_hops e) };
         within = s.written.within;
         tells = λ z l. absurd (true≢false z);
       }
 
-      pub among_refused : (a : Refusal) → u ≡ Err a → Searches (length notes) en ad ro ma ring (Err a) noted notes
+      pub among_refused : (a : Refusal) → u ≡ Err a → Searches (length notes) tables ring (Err a) noted notes
       unfolding Stepped received_outcome hops_by
-      among_refused a e = ends (Err a) s.ws noted notes s.written (omega arith) (λ t v. s.whole t v ∙ ap (λ (z : Outcome Said). by_notes (rows_of en ad ro ma) v s.ws z) (sym (look (Err a) e t v _)))
+      among_refused a e = ends (Err a) s.ws noted notes s.written (omega arith) (λ t v. s.whole t v ∙ ap (λ (z : Outcome Said). by_notes (rows_of tables) v s.ws z) (sym (look (Err a) e t v _)))

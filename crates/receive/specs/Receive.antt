@@ -5,9 +5,9 @@ use Rattle.route.specs.Route.{downstream_adapter}
 use Rattle.adapter.specs.Adapter.{AdapterRow, min_hop}
 use Rattle.tables.specs.Rows.{EntryRow, DeviceRow, Rows, adapter_in, device_in}
 use Rattle.parents.specs.Parents.{is_xdomain, parent_of}
-use Rattle.walk.specs.Walking.{Stand}
 use Rattle.walk.specs.Rule.{walk_from}
 use Rattle.walk.specs.Tables.{last_of}
+use Rattle.tables.specs.declared.Stand.{Stand}
 
 unfoldable pub at : ℕ → ℕ → ℕ → Stand
 at p a h = record { place = p; adapter = a; hop_id = h }

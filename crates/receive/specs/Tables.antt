@@ -3,14 +3,16 @@ use Rattle.std.specs.Prelude.{ℕ, suc, ◌/◌, ◌%◌, ◌^◌, ◌≤◌, �
 use Rattle.refusal.specs.Outcome.{Outcome, value, bind}
 use Rattle.tables.specs.Rows.{Rows}
 use Rattle.refusal.specs.Refusal.{refused_by}
-use Rattle.walk.specs.Walking.{Stand}
 use Rattle.walk.specs.Rule.{walk_from, stand_of}
-use Rattle.walk.specs.Tables.{rows_of, Tabled, Leaving, last_of, leaving_by, leaves}
+use Rattle.walk.specs.Tables.{Leaving, last_of, leaving_by, leaves}
 use Rattle.receive.specs.Receive.{at, Receive, Receive.received, Receive.nothing, Receive.lost, receive}
 use Rattle.receive.specs.declared.Received.{Received}
 use Rattle.refusal.specs.declared.Refusal.{Refusal}
 use Rattle.receive.specs.declared.Received.TheVariants as answer
 use Rattle.receive.specs.declared.ReceivePath.{ReceivePath}
+use Rattle.tables.specs.declared.Stand.{Stand}
+use Rattle.tables.specs.declared.Tables.{Tables}
+use Rattle.tables.specs.Tables.{Tabled, rows_of}
 
 -- what is said of a search: of a path its start, and by what it leaves
 pub data Said : Type 0 where
@@ -72,16 +74,16 @@ is_path (Ok answer.Lost) = false
 is_path (Err r) = false
 
 -- In tables in order, what is noted and how it ends tells what the search for any ring comes to.
-pub record Foretells (en ad ro ma notes : List ℕ) (end : Result Received Refusal) : Type 0 where
-  pub tells : Tabled en ad ro → (ring : ℕ) → bind (receive (rows_of en ad ro ma) ring) (λ v. value (said_of v)) ≡ by_notes (rows_of en ad ro ma) ring notes (received_outcome ring end)
+pub record Foretells (tables : Tables) (notes : List ℕ) (end : Result Received Refusal) : Type 0 where
+  pub tells : Tabled tables → (ring : ℕ) → bind (receive (rows_of tables) ring) (λ v. value (said_of v)) ≡ by_notes (rows_of tables) ring notes (received_outcome ring end)
 
 -- In tables in order it is what the search comes to. In any others it is free, but that a path has no more hops than there are entries.
-pub record Receives (en ad ro ma : List ℕ) (ring : ℕ) (r : Result Received Refusal) : Type 0 where
-  pub answers : Tabled en ad ro → received_outcome ring r ≡ bind (receive (rows_of en ad ro ma) ring) (λ v. value (said_of v))
-  pub few : hops_by r ≤ length en
+pub record Receives (tables : Tables) (ring : ℕ) (r : Result Received Refusal) : Type 0 where
+  pub answers : Tabled tables → received_outcome ring r ≡ bind (receive (rows_of tables) ring) (λ v. value (said_of v))
+  pub few : hops_by r ≤ length tables.entries.now
 
 -- The same with notes for the search of other rings, in a list that has room for some number of them. Document 01 has none. Fewer than the room, where no path is found, tell with what is found what the search for any ring comes to. The rest is free, and only time hangs on it: how many there are, up to the room, which tell nothing, as any number does where a path is found; the notes themselves then; their order under different rings; a second note under a ring; a note that says no more than what is found; and the words after the notes.
-pub record Searches (room : ℕ) (en ad ro ma : List ℕ) (ring : ℕ) (found : Result Received Refusal) (noted : ℕ) (notes : List ℕ) : Type 0 where
-  pub comes : Receives en ad ro ma ring found
+pub record Searches (room : ℕ) (tables : Tables) (ring : ℕ) (found : Result Received Refusal) (noted : ℕ) (notes : List ℕ) : Type 0 where
+  pub comes : Receives tables ring found
   pub within : noted ≤ room
-  pub tells : is_path found ≡ false → noted < room → Foretells en ad ro ma (take noted notes) found
+  pub tells : is_path found ≡ false → noted < room → Foretells tables (take noted notes) found

@@ -3,8 +3,6 @@ use Rattle.std.specs.Prelude.{ℕ, ◌+◌, ◌-◌, ◌≤◌, ◌<◌, ◌≡�
 use Rattle.refusal.specs.Outcome.{Outcome, value, bind}
 use Rattle.tables.specs.Rows.{EntryRow, DeviceRow, Rows, device_in}
 use Rattle.refusal.specs.Refusal.{refused_by}
-use Rattle.fabric.specs.Tables.{rows_with, InOrder}
-use Rattle.walk.specs.Tables.{rows_of, Tabled}
 use Rattle.receive.specs.Receive.{at, Lane, Lane.lane, Lane.passed, Lane.dropped, lane_of, Receive, Receive.nothing, among_hops, or_next}
 use Rattle.receive.specs.Tables.{Said, said_of, received_outcome, walk_said}
 use Rattle.receive.specs.declared.LaneFound.{LaneFound}
@@ -13,6 +11,8 @@ use Rattle.receive.specs.declared.Received.TheVariants as answer
 use Rattle.refusal.specs.declared.Refusal.{Refusal}
 use Rattle.receive.specs.declared.Step.{Step}
 use Rattle.receive.specs.declared.Step.TheVariants as step
+use Rattle.tables.specs.declared.Tables.{Tables}
+use Rattle.tables.specs.Tables.{InOrder, Tabled, rows_of}
 
 unfoldable pub lane_outcome : Result LaneFound Refusal → Outcome Lane
 lane_outcome (Ok (found.At q n lo hi)) = value (lane q n lo hi)
@@ -21,8 +21,8 @@ lane_outcome (Ok found.Dropped) = value dropped
 lane_outcome (Err r) = refused_by r
 
 -- in tables in order it is what f says of their rows; in any others it is free
-pub record LaneIs (ad ro ma : List ℕ) (f : Rows → Outcome Lane) (r : Result LaneFound Refusal) : Type 0 where
-  pub is : InOrder ad ro → (es : List EntryRow) → lane_outcome r ≡ f (rows_with es ad ro ma)
+pub record LaneIs (tables : Tables) (f : Rows → Outcome Lane) (r : Result LaneFound Refusal) : Type 0 where
+  pub is : InOrder tables → lane_outcome r ≡ f (rows_of tables)
 
 -- of the device at place p, if there is one
 unfoldable pub lane_by : Rows → ℕ → Option DeviceRow → Outcome Lane
@@ -55,11 +55,11 @@ end_hops (Ok (step.Fits p)) = p.hops
 end_hops (Err r) = 0
 
 -- so it is in tables in order; in any others the HopID to look at next is further on all the same
-pub record Looked (en ad ro ma : List ℕ) (ring q n h hi : ℕ) (r : Result Step Refusal) : Type 0 where
-  pub stepped : Tabled en ad ro → q < 65536 → Stepped (rows_of en ad ro ma) ring q n h hi r
+pub record Looked (tables : Tables) (ring q n h hi : ℕ) (r : Result Step Refusal) : Type 0 where
+  pub stepped : Tabled tables → q < 65536 → Stepped (rows_of tables) ring q n h hi r
   pub further : (k : ℕ) → r ≡ Ok (step.On k) → (h < k) × (k ≤ 65536)
   pub passed : (k o : ℕ) → r ≡ Ok (step.Past k o) → (h ≤ k) × (k < 65536) × (o < 65536) × (o ≡ ring → ⊥)
-  pub few : end_hops r ≤ length en
+  pub few : end_hops r ≤ length tables.entries.now
 
 -- a note is put, if there is room
 pub record PutNote (word noted : ℕ) (old : List ℕ) (r : ℕ) (new : List ℕ) : Type 0 where

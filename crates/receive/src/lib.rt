@@ -8,6 +8,7 @@ ghost use Rattle.tables.specs.Found.{device_row};
 ghost use Rattle.receive.specs.Receive.{hops_of, under_router, taken};
 ghost use Rattle.receive.specs.Tables.{note_ring, Searches};
 ghost use Rattle.receive.specs.Work.{lane_outcome, LaneIs, lane_at, Looked, PutNote};
+ghost use Rattle.tables.specs.Tables.{Fits};
 
 use adapter::Facts;
 use refusal::{Fault, FieldError, Refusal, Site};
@@ -103,15 +104,13 @@ fn hops_of(place: usize, f: Facts) -> Result<LaneFound, Refusal>
 
 // Of the router at place q, the adapter beneath which a device hangs.
 fn beneath(
-    adapters: &[u64],
-    routes: &[u64],
-    marks: &[u64],
+    tables: &Tables,
     d: DeviceFacts,
     q: usize,
 ) -> Result<LaneFound, Refusal>
-    ensures { (p : ℕ) → LaneIs adapters.now routes.now marks.now (λ x. under_router x (device_row p d) q (device_in x.devices q)) result }
+    ensures { (p : ℕ) → LaneIs tables.now (λ x. under_router x (device_row p d) q (device_in x.devices q)) result }
 {
-    let Some(e) = routers::find_device(routes, marks, q) else {
+    let Some(e) = routers::find_device(tables, q) else {
         return Ok(LaneFound::Passed);
     };
     let Some(n) = route::downstream_adapter(e.domain, e.route, d.domain, d.route) else {
@@ -133,39 +132,34 @@ fn taken(d: DeviceFacts) -> bool
 
 // Where the receive paths of the device at a place come in: an xdomain's, at its parent.
 fn lane_of(
-    adapters: &[u64],
-    routes: &[u64],
-    marks: &[u64],
+    tables: &Tables,
     place: usize,
 ) -> Result<LaneFound, Refusal>
-    ensures { LaneIs adapters.now routes.now marks.now (λ x. lane_at x place) result }
+    ensures { LaneIs tables.now (λ x. lane_at x place) result }
 {
-    let Some(d) = routers::find_device(routes, marks, place) else {
+    let Some(d) = routers::find_device(tables, place) else {
         return Ok(LaneFound::Passed);
     };
     if !taken(d) {
         return Ok(LaneFound::Passed);
     }
-    let parent = parents::parent_of(routes, marks, adapters, place, d)?;
+    let parent = parents::parent_of(tables, place, d)?;
     let Some(q) = parent else {
         return Ok(LaneFound::Passed);
     };
-    beneath(adapters, routes, marks, d, q)
+    beneath(tables, d, q)
 }
 
 // The next HopID from `hop` to `most` that has an entry: its path, if its last hop leaves by the ring.
 fn look_at(
-    entries: &[u64],
-    adapters: &[u64],
-    routes: &[u64],
-    marks: &[u64],
+    tables: &Tables,
     place: usize,
     adapter: u8,
     hop: u32,
     most: u32,
     ring: u16,
 ) -> Result<Step, Refusal>
-    ensures { Looked entries.now adapters.now routes.now marks.now ring place adapter hop most result }
+    ensures { Looked tables.now ring place adapter hop most result }
 {
     if 65535 < hop {
         return Ok(Step::Over);
@@ -179,10 +173,7 @@ fn look_at(
         return Ok(Step::Over);
     }
     let walked = walk::onward(
-        entries,
-        adapters,
-        routes,
-        marks,
+        tables,
         place,
         next.out_adapter,
         next.out_hop,
@@ -227,19 +218,16 @@ fn put_note(notes: &mut [u64], noted: usize, word: u64) -> usize
 
 // The first path that leaves by the ring, over the xdomains and the HopIDs of the adapters at which their paths come in. Those before it are noted.
 fn seek_path(
-    entries: &[u64],
-    adapters: &[u64],
-    routes: &[u64],
-    marks: &[u64],
+    tables: &Tables,
     ring: u16,
     notes: &mut [u64],
 ) -> Sought
-    ensures { Searches (length notes.new) entries.now adapters.now routes.now marks.now ring result.found result.noted notes.new }
+    ensures { Searches (length notes.new) tables.now ring result.found result.noted notes.new }
 {
     let mut noted: usize = 0;
     let mut i: usize = 0;
     while i < routes.len() {
-        match lane_of(adapters, routes, marks, i) {
+        match lane_of(tables, i) {
             Err(refusal) => {
                 let found = Err(refusal);
                 return Sought { found, noted };
@@ -260,7 +248,7 @@ fn seek_path(
                 let mut hop = least;
                 while hop <= most {
                     match look_at(
-                        entries, adapters, routes, marks, place, adapter, hop, most, ring,
+                        tables, place, adapter, hop, most, ring,
                     ) {
                         Ok(Step::On(next)) => hop = next,
                         Ok(Step::Past { hop: h, last }) => {
@@ -289,16 +277,13 @@ fn seek_path(
 
 // The receive path of a ring, and what is noted as it is sought.
 pub fn receive(
-    entries: &[u64],
-    adapters: &[u64],
-    routes: &[u64],
-    marks: &[u64],
+    tables: &Tables,
     ring: u16,
 ) -> Searched
-    ensures { Searches 64 entries.now adapters.now routes.now marks.now ring result.found result.noted result.notes }
+    ensures { Searches 64 tables.now ring result.found result.noted result.notes }
 {
     let mut notes = [0u64; 64];
-    let sought = seek_path(entries, adapters, routes, marks, ring, &mut notes);
+    let sought = seek_path(tables, ring, &mut notes);
     let found = sought.found;
     Searched {
         found,
@@ -309,16 +294,13 @@ pub fn receive(
 
 // The same with room for more notes. They are 16 KiB, which a search that passes few paths needn't pay for.
 pub fn receive_far(
-    entries: &[u64],
-    adapters: &[u64],
-    routes: &[u64],
-    marks: &[u64],
+    tables: &Tables,
     ring: u16,
 ) -> SearchedFar
-    ensures { Searches 2048 entries.now adapters.now routes.now marks.now ring result.found result.noted result.notes }
+    ensures { Searches 2048 tables.now ring result.found result.noted result.notes }
 {
     let mut notes = [0u64; 2048];
-    let sought = seek_path(entries, adapters, routes, marks, ring, &mut notes);
+    let sought = seek_path(tables, ring, &mut notes);
     let found = sought.found;
     SearchedFar {
         found,

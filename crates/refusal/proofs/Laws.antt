@@ -3,7 +3,7 @@ use mathlib.Core.Path.{◌≡◌, refl, sym, ap, ◌∙◌}
 use native.Mathlib.Omega.{arith}
 use Prim.Native.Nat.{ℕ}
 use mathlib.Core.List.{List}
-use Rattle.std.specs.Prelude.{Result, Ok, Err}
+use Rattle.std.specs.Prelude.{Option, None, Some, Result, Ok, Err, ok_or}
 use Rattle.refusal.specs.Outcome.{Outcome, refused, value, bind}
 use Rattle.refusal.specs.Refusal.{refusal_of, refused_by, of_walk, outcome_by, outcome, walk_outcome, fault_outcome}
 use Rattle.refusal.specs.declared.WalkError.{WalkError}
@@ -98,6 +98,22 @@ not_refused {A} r a e = let x = numbered A r in absurd (let z : ◌≡◌ {A = �
 pub outcome_ok : {A : Type 0} (q : Result A Refusal) (a : A) → outcome q ≡ value a → q ≡ Ok a
 outcome_ok (Ok b) a e = cc
 outcome_ok (Err r) a e = absurd (not_refused r a e)
+
+-- what `?` does where what was sought is missing, and where it is there
+module _ {A E : Type 0} (o : Option A) (f : E) (q : Result A E) (is : q ≡ ok_or o f) where
+  pub missing : (e : E) → q ≡ Err e → (o ≡ None) × (e ≡ f)
+  missing e k = go o (sym k ∙ is)
+    where
+      go : (x : Option A) → Err e ≡ ok_or x f → (x ≡ None) × (e ≡ f)
+      go None g = (refl, cc)
+      go (Some a) g = absurd (let z : ◌≡◌ {A = ℕ} 0 1 = cc in omega arith)
+
+  pub there : (a : A) → q ≡ Ok a → o ≡ Some a
+  there a k = go o (sym k ∙ is)
+    where
+      go : (x : Option A) → Ok a ≡ ok_or x f → x ≡ Some a
+      go None g = absurd (let z : ◌≡◌ {A = ℕ} 0 1 = cc in omega arith)
+      go (Some b) g = cc
 
 -- there is one way for a field to be missing
 pub no_field : (e : FieldError) → e ≡ field.NoField

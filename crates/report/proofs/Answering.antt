@@ -13,7 +13,6 @@ use Rattle.tables.specs.Packed.{adapter_word}
 use Rattle.refusal.specs.Refusal.{refused_by}
 use Rattle.refusal.specs.declared.Refusal.{Refusal}
 use Rattle.refusal.proofs.Laws.{refused_bind, not_refused}
-use Rattle.walk.specs.Tables.{rows_of}
 use Rattle.tunnel.specs.Tunnels.{Tunnel}
 use Rattle.tunnel.specs.Words.{tunnels_words}
 use Rattle.discovery.specs.Answers.{discover_at, in_room, output_by}
@@ -21,6 +20,8 @@ use Rattle.discovery.specs.Tables.{Discovered}
 use Rattle.report.specs.Report.{words_by, answer_of}
 use Rattle.report.specs.Work.{words_outcome, Answered}
 use Rattle.refusal.specs.Refusal.{outcome}
+use Rattle.tables.specs.declared.Tables.{Tables}
+use Rattle.tables.specs.Tables.{rows_of}
 
 -- ---- by what is discovered, with room for 16,384 words
 
@@ -65,13 +66,13 @@ refused_of (value (Some ts)) room l q e = go (tunnels_words ts) (ltb room (lengt
 
 -- ---- an adapter's answer
 
-module _ (en ad ro ma : List ℕ) (i : ℕ) (out : List ℕ) (l : length out ≡ 16384) (r : Result (Option ℕ) Refusal) (out' : List ℕ)
-    (d : Discovered en ad ro ma (get_or ad i 0 / 2 ^ 48) (get_or ad i 0 / 2 ^ 40 % 256) out r out') where
+module _ (tables : Tables) (i : ℕ) (out : List ℕ) (l : length out ≡ 16384) (r : Result (Option ℕ) Refusal) (out' : List ℕ)
+    (d : Discovered tables (get_or tables.adapters.now i 0 / 2 ^ 48) (get_or tables.adapters.now i 0 / 2 ^ 40 % 256) out r out') where
   abbrev found : Outcome (Option (List Tunnel))
-  found = discover_at (rows_of en ad ro ma) (get_or ad i 0 / 2 ^ 48) (get_or ad i 0 / 2 ^ 40 % 256)
+  found = discover_at (rows_of tables) (get_or tables.adapters.now i 0 / 2 ^ 48) (get_or tables.adapters.now i 0 / 2 ^ 40 % 256)
 
   -- absent is an answer of no words
-  pub in_words : (o : Option ℕ) → r ≡ Ok o → Answered en ad ro ma i (Ok (unwrap_or o 0)) out'
+  pub in_words : (o : Option ℕ) → r ≡ Ok o → Answered tables i (Ok (unwrap_or o 0)) out'
   unfolding words_outcome answer_of adapter_word
   in_words (Some n) e = record {
     answers = λ k es.
@@ -84,7 +85,7 @@ module _ (en ad ro ma : List ℕ) (i : ℕ) (out : List ℕ) (l : length out ≡
     within = λ m f. let z : 0 ≡ m = cc in omega arith;
   }
 
-  pub in_refusal : (q : Refusal) → r ≡ Err q → Answered en ad ro ma i (Err q) out'
+  pub in_refusal : (q : Refusal) → r ≡ Err q → Answered tables i (Err q) out'
   unfolding words_outcome answer_of adapter_word
   in_refusal q e = record {
     answers = λ k es. refused_of found (length out) l q (sym (ap outcome e) ∙ d.answers k.sized es);

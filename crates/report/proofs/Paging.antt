@@ -13,20 +13,20 @@ use Rattle.refusal.specs.Outcome.{Outcome, refused, value, bind}
 use Rattle.tables.specs.Rows.{Rows}
 use Rattle.tables.specs.Packed.{adapter_word}
 use Rattle.refusal.proofs.Laws.{refused_bind, numbered, not_refused}
-use Rattle.fabric.specs.Tables.{rows_with}
-use Rattle.walk.specs.Tables.{rows_of, Tabled}
 use Rattle.print.specs.Print.{most, capped}
 use Rattle.printed.specs.Printed as text
 use Rattle.printed.specs.Printed.{lines_of, in_room, PrintDone}
 use Rattle.printed.proofs.Room.{room_bytes}
 use Rattle.report.specs.Report.{answer_of}
-use Rattle.report.specs.Tables.{Fits, page_by, page_at, page_outcome, output_by, is_page, Paged}
+use Rattle.report.specs.Tables.{page_by, page_at, page_outcome, output_by, is_page, Paged}
 use Rattle.report.specs.Work.{words_outcome, Answered}
 use Rattle.refusal.specs.Refusal.{refusal_of, refused_by, outcome}
 use Rattle.refusal.specs.declared.Fault.{Fault}
 use Rattle.refusal.specs.declared.Fault.TheVariants.{FewRegisters, NoField, BadAdapters, GenTOffset, NoPathDump, NoOutAdapter, NoParentRoute, NoDownstreamRoute, Endless}
 use Rattle.refusal.specs.declared.Refusal.{Refusal}
 use Rattle.refusal.specs.declared.Refusal.TheVariants as refusal
+use Rattle.tables.specs.declared.Tables.{Tables}
+use Rattle.tables.specs.Tables.{Fits, Tabled, rows_of}
 
 -- ---- the adapter at an index
 
@@ -82,10 +82,10 @@ page_kept : (m : Refusal) (s out : List ℕ) → text.output_by s (refused_by m)
 unfolding text.output_by
 page_kept m s out = rw (numbered ℕ m).2 refl
 
-module _ (en ad ro ma : List ℕ) (i : ℕ) (out : List ℕ) where
+module _ (tables : Tables) (i : ℕ) (out : List ℕ) where
   -- ---- an empty page
 
-  empty : (Fits en ad ro → Tabled en ad ro → page_at (rows_of en ad ro ma) i ≡ value []) → Paged en ad ro ma i out (Ok (Ok 0)) out
+  empty : (Fits tables → Tabled tables → page_at (rows_of tables) i ≡ value []) → Paged tables i out (Ok (Ok 0)) out
   unfolding page_outcome output_by is_page bind in_room
   empty e = record {
     answers = λ k es. sym (ap (λ o. bind o (in_room (length out))) (e k es) ∙ ap (λ b. cond b (refused 2 (capped 0 ∷ [])) (value 0)) (le-ltb (length out) 0 (omega arith)));
@@ -101,25 +101,25 @@ module _ (en ad ro ma : List ℕ) (i : ℕ) (out : List ℕ) where
     long = refl;
   }
 
-  pub paged_larger : (Fits en ad ro → ⊥) → Paged en ad ro ma i out (Ok (Ok 0)) out
+  pub paged_larger : (Fits tables → ⊥) → Paged tables i out (Ok (Ok 0)) out
   paged_larger z = empty (λ k es. absurd (z k))
 
-  pub paged_past : length ad ≤ i → Paged en ad ro ma i out (Ok (Ok 0)) out
-  unfolding page_at rows_of rows_with
-  paged_past l = empty (λ k es. page_past (rows_of en ad ro ma) i ad l)
+  pub paged_past : length tables.adapters.now ≤ i → Paged tables i out (Ok (Ok 0)) out
+  unfolding page_at rows_of
+  paged_past l = empty (λ k es. page_past (rows_of tables) i tables.adapters.now l)
 
   -- ---- an adapter's page
 
-  module _ (l : i < length ad) (f : Fits en ad ro) (r : Result ℕ Refusal) (ws : List ℕ) (a : Answered en ad ro ma i r ws) where
-    page_of : Fits en ad ro → Tabled en ad ro → page_at (rows_of en ad ro ma) i ≡ bind (words_outcome r ws) (λ us. value (lines_of us))
-    unfolding page_at rows_of rows_with
-    page_of k es = page_here (rows_of en ad ro ma) i ad l ∙ sym (ap (λ o. bind o (λ us. value (lines_of us))) (a.answers k es))
+  module _ (l : i < length tables.adapters.now) (f : Fits tables) (r : Result ℕ Refusal) (ws : List ℕ) (a : Answered tables i r ws) where
+    page_of : Fits tables → Tabled tables → page_at (rows_of tables) i ≡ bind (words_outcome r ws) (λ us. value (lines_of us))
+    unfolding page_at rows_of
+    page_of k es = page_here (rows_of tables) i tables.adapters.now l ∙ sym (ap (λ o. bind o (λ us. value (lines_of us))) (a.answers k es))
 
-    pub paged_refused : (m : Refusal) → r ≡ Err m → Paged en ad ro ma i out (Err m) out
+    pub paged_refused : (m : Refusal) → r ≡ Err m → Paged tables i out (Err m) out
     unfolding page_outcome output_by is_page words_outcome
     paged_refused m e = record {
       answers = λ k es. sym (ap (λ o. bind o (in_room (length out))) (page_refused k es) ∙ refused_bind m (in_room (length out)));
-      writes = λ k es. sym (kept_by m (page_at (rows_of en ad ro ma) i) out);
+      writes = λ k es. sym (kept_by m (page_at (rows_of tables) i) out);
       larger = λ z. absurd (z f);
       kept = λ q. refl;
       within = λ n q. absurd (let z : ◌≡◌ {A = ℕ} 0 1 = cc in omega arith);
@@ -131,15 +131,15 @@ module _ (en ad ro ma : List ℕ) (i : ℕ) (out : List ℕ) where
       long = refl;
     }
       where
-        page_refused : Fits en ad ro → Tabled en ad ro → page_at (rows_of en ad ro ma) i ≡ refused_by m
+        page_refused : Fits tables → Tabled tables → page_at (rows_of tables) i ≡ refused_by m
         page_refused k es = page_of k es ∙ ap (λ y. bind (words_outcome y ws) (λ us. value (lines_of us))) e ∙ refused_bind m (λ us. value (lines_of us))
 
     module _ (n : ℕ) (e : r ≡ Ok n) (p : Result ℕ Refusal) (out' : List ℕ) (d : PrintDone (lines_of (take n ws)) out p out') where
-      page_words : Fits en ad ro → Tabled en ad ro → page_at (rows_of en ad ro ma) i ≡ value (lines_of (take n ws))
+      page_words : Fits tables → Tabled tables → page_at (rows_of tables) i ≡ value (lines_of (take n ws))
       unfolding bind words_outcome
       page_words k es = page_of k es ∙ ap (λ y. bind (words_outcome y ws) (λ us. value (lines_of us))) e
 
-      paged_bytes : (b : ℕ) → p ≡ Ok b → Paged en ad ro ma i out (Ok (Ok b)) out'
+      paged_bytes : (b : ℕ) → p ≡ Ok b → Paged tables i out (Ok (Ok b)) out'
       unfolding page_outcome output_by is_page bind text.output_by
       paged_bytes b q =
           let s = lines_of (take n ws) in
@@ -162,14 +162,14 @@ module _ (en ad ro ma : List ℕ) (i : ℕ) (out : List ℕ) where
             long = ap length wrote ∙ length-append s (drop (length s) out) ∙ omega (arith, length-drop (length s) out, room);
           }
 
-      paged_short : (m : Refusal) → p ≡ Err m → Paged en ad ro ma i out (Ok (Err m)) out'
+      paged_short : (m : Refusal) → p ≡ Err m → Paged tables i out (Ok (Err m)) out'
       unfolding page_outcome is_page bind
       paged_short m q =
           let s = lines_of (take n ws) in
           let kept : out' ≡ out = d.writes ∙ ap (λ y. text.output_by s (outcome y) out) q ∙ page_kept m s out in
           record {
             answers = λ k es. sym (ap outcome q) ∙ d.answers ∙ sym (ap (λ o. bind o (in_room (length out))) (page_words k es));
-            writes = λ k es. kept ∙ sym (kept_by m (page_at (rows_of en ad ro ma) i) out);
+            writes = λ k es. kept ∙ sym (kept_by m (page_at (rows_of tables) i) out);
             larger = λ z. absurd (z f);
             kept = λ z. kept;
             within = λ k g. absurd (let z : ◌≡◌ {A = ℕ} 0 1 = cc in omega arith);
@@ -181,9 +181,9 @@ module _ (en ad ro ma : List ℕ) (i : ℕ) (out : List ℕ) where
             long = ap length kept;
           }
 
-      pub paged : Paged en ad ro ma i out (Ok p) out'
+      pub paged : Paged tables i out (Ok p) out'
       paged = go p refl
         where
-          go : (q : Result ℕ Refusal) → p ≡ q → Paged en ad ro ma i out (Ok q) out'
+          go : (q : Result ℕ Refusal) → p ≡ q → Paged tables i out (Ok q) out'
           go (Ok b) e = paged_bytes b e
           go (Err m) e = paged_short m e

@@ -16,13 +16,13 @@ use Rattle.tables.specs.Packed.{adapter_word}
 use Rattle.refusal.specs.Refusal.{refused_by, outcome}
 use Rattle.refusal.specs.declared.Refusal.{Refusal}
 use Rattle.refusal.proofs.Laws.{refused_bind}
-use Rattle.fabric.specs.Tables.{rows_with}
-use Rattle.walk.specs.Tables.{rows_of, Tabled}
 use Rattle.printing.specs.Lines.{is_tunnel, is_hop}
 use Rattle.printed.specs.Printed.{parts_of, one, tunnels_by, tunnels_in}
 use Rattle.report.specs.Report.{answer_of, answers_of, total_of}
-use Rattle.report.specs.Tables.{Fits, Tries}
+use Rattle.report.specs.Tables.{Tries}
 use Rattle.report.specs.Work.{words_outcome, Answered}
+use Rattle.tables.specs.declared.Tables.{Tables}
+use Rattle.tables.specs.Tables.{Fits, Tabled, rows_of}
 
 -- ---- how many tunnels words have at most
 
@@ -53,11 +53,11 @@ unfoldable pub total_with : Rows → ℕ → List AdapterRow → Outcome ℕ
 total_with x n ys = bind (answers_of x ys) (λ wss. value (n + total_of wss))
 
 -- they are those of all adapters
-pub record Trying (en ad ro ma : List ℕ) (total i : ℕ) : Type 0 where
-  pub past : i ≤ length ad
+pub record Trying (tables : Tables) (total i : ℕ) : Type 0 where
+  pub past : i ≤ length tables.adapters.now
   pub few : total ≤ 16384 * i
-  pub whole : Fits en ad ro → Tabled en ad ro
-      → total_with (rows_of en ad ro ma) total (map adapter_word (drop i ad)) ≡ bind (answers_of (rows_of en ad ro ma) (rows_of en ad ro ma).adapters) (λ wss. value (total_of wss))
+  pub whole : Fits tables → Tabled tables
+      → total_with (rows_of tables) total (map adapter_word (drop i tables.adapters.now)) ≡ bind (answers_of (rows_of tables) (rows_of tables).adapters) (λ wss. value (total_of wss))
 
 from_none : (o : Outcome (List (List ℕ))) → bind o (λ wss. value (0 + total_of wss)) ≡ bind o (λ wss. value (total_of wss))
 unfolding bind
@@ -81,49 +81,49 @@ module _ (x : Rows) (total : ℕ) (y : AdapterRow) (ys : List AdapterRow) where
       let h : List (List ℕ) → Outcome ℕ = λ wss. value (total + total_of wss) in
       sym (ap (λ o. bind o h) (refused_bind m g) ∙ refused_bind m h) ∙ ap (λ o. bind (bind o g) h) e
 
-module _ (en ad ro ma : List ℕ) where
-  pub tries_larger : (Fits en ad ro → ⊥) → Tries en ad ro ma (Ok 0)
+module _ (tables : Tables) where
+  pub tries_larger : (Fits tables → ⊥) → Tries tables (Ok 0)
   tries_larger z = record { answers = λ k es. absurd (z k); larger = λ f. refl; few = λ n q. let e : 0 ≡ n = cc in omega arith }
 
-  pub none_tried : Trying en ad ro ma 0 0
-  unfolding total_with rows_of rows_with
-  none_tried = record { past = omega arith; few = omega arith; whole = λ k es. from_none (answers_of (rows_of en ad ro ma) (map adapter_word ad)) }
+  pub none_tried : Trying tables 0 0
+  unfolding total_with rows_of
+  none_tried = record { past = omega arith; few = omega arith; whole = λ k es. from_none (answers_of (rows_of tables) (map adapter_word tables.adapters.now)) }
 
-  module _ (total i : ℕ) (t : Trying en ad ro ma total i) where
+  module _ (total i : ℕ) (t : Trying tables total i) where
     -- the next adapter is the first of those that are left
-    next : i < length ad → total_with (rows_of en ad ro ma) total (map adapter_word (drop i ad)) ≡ total_with (rows_of en ad ro ma) total (adapter_word (get_or ad i 0) ∷ map adapter_word (drop (suc i) ad))
-    next l = ap (λ ys. total_with (rows_of en ad ro ma) total (map adapter_word ys)) (drop-cons ad i 0 l)
+    next : i < length tables.adapters.now → total_with (rows_of tables) total (map adapter_word (drop i tables.adapters.now)) ≡ total_with (rows_of tables) total (adapter_word (get_or tables.adapters.now i 0) ∷ map adapter_word (drop (suc i) tables.adapters.now))
+    next l = ap (λ ys. total_with (rows_of tables) total (map adapter_word ys)) (drop-cons tables.adapters.now i 0 l)
 
-    pub one_tried : i < length ad → (r : Result ℕ Refusal) (ws : List ℕ) → Answered en ad ro ma i r ws → length ws ≡ 16384 → (n : ℕ) → r ≡ Ok n → (k : ℕ) → k ≡ tunnels_in (take n ws) → Trying en ad ro ma (total + k) (i + 1)
+    pub one_tried : i < length tables.adapters.now → (r : Result ℕ Refusal) (ws : List ℕ) → Answered tables i r ws → length ws ≡ 16384 → (n : ℕ) → r ≡ Ok n → (k : ℕ) → k ≡ tunnels_in (take n ws) → Trying tables (total + k) (i + 1)
     unfolding words_outcome
     one_tried l r ws a q n e k z = record {
       past = omega arith;
       few = omega (arith, t.few, tunnels_few (take n ws), length-take-le n ws (a.within n e), a.within n e);
       whole = λ f es.
-          ap (λ j. total_with (rows_of en ad ro ma) (total + k) (map adapter_word (drop j ad))) (add-one i)
-          ∙ ap (λ j. total_with (rows_of en ad ro ma) (total + j) (map adapter_word (drop (suc i) ad))) z
-          ∙ with_one (rows_of en ad ro ma) total (adapter_word (get_or ad i 0)) (map adapter_word (drop (suc i) ad)) (take n ws) (sym (ap (λ y. words_outcome y ws) e) ∙ a.answers f es)
+          ap (λ j. total_with (rows_of tables) (total + k) (map adapter_word (drop j tables.adapters.now))) (add-one i)
+          ∙ ap (λ j. total_with (rows_of tables) (total + j) (map adapter_word (drop (suc i) tables.adapters.now))) z
+          ∙ with_one (rows_of tables) total (adapter_word (get_or tables.adapters.now i 0)) (map adapter_word (drop (suc i) tables.adapters.now)) (take n ws) (sym (ap (λ y. words_outcome y ws) e) ∙ a.answers f es)
           ∙ sym (next l)
           ∙ t.whole f es;
     }
 
-    pub tries_refused : i < length ad → Fits en ad ro → (r : Result ℕ Refusal) (ws : List ℕ) → Answered en ad ro ma i r ws → (m : Refusal) → r ≡ Err m → Tries en ad ro ma (Err m)
+    pub tries_refused : i < length tables.adapters.now → Fits tables → (r : Result ℕ Refusal) (ws : List ℕ) → Answered tables i r ws → (m : Refusal) → r ≡ Err m → Tries tables (Err m)
     unfolding words_outcome
     tries_refused l f r ws a m e = record {
       answers = λ k es.
-          with_refused (rows_of en ad ro ma) total (adapter_word (get_or ad i 0)) (map adapter_word (drop (suc i) ad)) m (sym (ap (λ y. words_outcome y ws) e) ∙ a.answers k es)
+          with_refused (rows_of tables) total (adapter_word (get_or tables.adapters.now i 0)) (map adapter_word (drop (suc i) tables.adapters.now)) m (sym (ap (λ y. words_outcome y ws) e) ∙ a.answers k es)
           ∙ sym (next l)
           ∙ t.whole k es;
       larger = λ z. absurd (z f);
       few = λ n q. absurd (let z : ◌≡◌ {A = ℕ} 0 1 = cc in omega arith);
     }
 
-    pub tries_all : length ad ≤ i → Fits en ad ro → Tries en ad ro ma (Ok total)
+    pub tries_all : length tables.adapters.now ≤ i → Fits tables → Tries tables (Ok total)
     unfolding total_with answers_of bind total_of
     tries_all l f = record {
       answers = λ k es.
           ap value (sym (add-zero total))
-          ∙ sym (ap (λ ys. total_with (rows_of en ad ro ma) total (map adapter_word ys)) (drop_of_length-le ad l))
+          ∙ sym (ap (λ ys. total_with (rows_of tables) total (map adapter_word ys)) (drop_of_length-le tables.adapters.now l))
           ∙ t.whole k es;
       larger = λ z. absurd (z f);
       few = λ n q. let e : total ≡ n = cc in omega (arith, t.few, t.past);

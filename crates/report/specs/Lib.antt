@@ -1,3 +1,4 @@
+use Rattle.tables.specs.declared.Tables.{Tables}
 pub mod Report
 pub mod Tables
 pub mod Work

@@ -2,17 +2,17 @@
 use Rattle.std.specs.Prelude.{ℕ, ◌≤◌, ◌≡◌, List, length, take, get_or, Result, Ok, Err}
 use Rattle.refusal.specs.Outcome.{Outcome, value}
 use Rattle.tables.specs.Packed.{adapter_word}
-use Rattle.walk.specs.Tables.{rows_of, Tabled}
 use Rattle.refusal.specs.Refusal.{refused_by}
 use Rattle.refusal.specs.declared.Refusal.{Refusal}
 use Rattle.report.specs.Report.{answer_of}
-use Rattle.report.specs.Tables.{Fits}
+use Rattle.tables.specs.declared.Tables.{Tables}
+use Rattle.tables.specs.Tables.{Fits, Tabled, rows_of}
 
 unfoldable pub words_outcome : Result ℕ Refusal → List ℕ → Outcome (List ℕ)
 words_outcome (Ok n) ws = value (take n ws)
 words_outcome (Err r) ws = refused_by r
 
 -- the adapter at index k answers, into words that have the room
-pub record Answered (en ad ro ma : List ℕ) (k : ℕ) (r : Result ℕ Refusal) (ws : List ℕ) : Type 0 where
-  pub answers : Fits en ad ro → Tabled en ad ro → words_outcome r ws ≡ answer_of (rows_of en ad ro ma) (adapter_word (get_or ad k 0))
+pub record Answered (tables : Tables) (k : ℕ) (r : Result ℕ Refusal) (ws : List ℕ) : Type 0 where
+  pub answers : Fits tables → Tabled tables → words_outcome r ws ≡ answer_of (rows_of tables) (adapter_word (get_or tables.adapters.now k 0))
   pub within : (n : ℕ) → r ≡ Ok n → n ≤ length ws

@@ -2,8 +2,9 @@
 #![tactic(auto)]
 
 ghost use Rattle.std.specs.Prelude.{◌<◌, ◌≡◌, true, false, length};
-ghost use Rattle.report.specs.Tables.{Fits, Tries, Paged};
+ghost use Rattle.report.specs.Tables.{Tries, Paged};
 ghost use Rattle.report.specs.Work.{Answered};
+ghost use Rattle.tables.specs.Tables.{Fits};
 
 use refusal::Refusal;
 
@@ -32,32 +33,26 @@ fn larger(entries: &[u64], adapters: &[u64], routes: &[u64]) -> bool
 
 // The result words of the adapter at an index of the table.
 fn answer_at(
-    entries: &[u64],
-    adapters: &[u64],
-    routes: &[u64],
-    marks: &[u64],
+    tables: &Tables,
     index: usize,
     words: &mut [u32],
 ) -> Result<usize, Refusal>
     requires { (index < length adapters.now) × (length words.old ≡ 16384) }
-    ensures { Answered entries.now adapters.now routes.now marks.now index result words.new }
+    ensures { Answered tables.now index result words.new }
 {
     let word = adapters[index];
     let place = (word / 281474976710656) as usize;
     let number = (word / 1099511627776 % 256) as u8;
-    let found = discovery::discover_in(entries, adapters, routes, marks, place, number, words);
+    let found = discovery::discover_in(tables, place, number, words);
     let count = found?;
     Ok(count.unwrap_or(0))
 }
 
 // Tries each adapter in order; how many tunnels there are in all, or the first refusal.
 pub fn try_all(
-    entries: &[u64],
-    adapters: &[u64],
-    routes: &[u64],
-    marks: &[u64],
+    tables: &Tables,
 ) -> Result<usize, Refusal>
-    ensures { Tries entries.now adapters.now routes.now marks.now result }
+    ensures { Tries tables.now result }
 {
     if larger(entries, adapters, routes) {
         return Ok(0);
@@ -65,7 +60,7 @@ pub fn try_all(
     let mut words = [0u32; ANSWER_ROOM];
     let mut total: usize = 0;
     for index in 0..adapters.len() {
-        let n = answer_at(entries, adapters, routes, marks, index, &mut words)?;
+        let n = answer_at(tables, index, &mut words)?;
         total += printed::tunnels(&words[..n]);
     }
     Ok(total)
@@ -73,14 +68,11 @@ pub fn try_all(
 
 // The lines of the adapter at an index of the table: how many bytes, or the bytes needed (2). An adapter whose answer is refused refuses the whole, be it with another 2.
 pub fn put_page(
-    entries: &[u64],
-    adapters: &[u64],
-    routes: &[u64],
-    marks: &[u64],
+    tables: &Tables,
     index: usize,
     output: &mut [u8],
 ) -> Result<Result<usize, Refusal>, Refusal>
-    ensures { Paged entries.now adapters.now routes.now marks.now index output.old result output.new }
+    ensures { Paged tables.now index output.old result output.new }
 {
     if larger(entries, adapters, routes) {
         return Ok(Ok(0));
@@ -89,7 +81,7 @@ pub fn put_page(
         return Ok(Ok(0));
     }
     let mut words = [0u32; ANSWER_ROOM];
-    let n = answer_at(entries, adapters, routes, marks, index, &mut words)?;
+    let n = answer_at(tables, index, &mut words)?;
     let page = printed::lines(&words[..n], output);
     Ok(page)
 }

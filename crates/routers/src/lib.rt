@@ -9,7 +9,7 @@ ghost use Rattle.refusal.specs.declared.Site.{Site};
 ghost use Rattle.refusal.specs.Refusal.{field_at};
 
 use refusal::FieldError;
-use tables::DeviceFacts;
+use tables::{DeviceFacts, Tables};
 
 // An upstream adapter by its code.
 fn upstream_by(code: u64) -> Result<Option<u8>, FieldError>
@@ -38,36 +38,34 @@ fn device_of(route: u64, mark: u64) -> DeviceFacts
 }
 
 // The device at a place.
-pub fn find_device(routes: &[u64], marks: &[u64], place: usize) -> Option<DeviceFacts>
-    ensures { device_found place result ≡ device_in (devices_in routes.now marks.now) place }
+pub fn find_device(tables: &Tables, place: usize) -> Option<DeviceFacts>
+    ensures { device_found place result ≡ device_in (devices_in tables.now.routes.now tables.now.marks.now) place }
 {
-    if routes.len() <= place {
+    if tables.routes.len() <= place {
         return None;
     }
-    if marks.len() <= place {
+    if tables.marks.len() <= place {
         return None;
     }
-    Some(device_of(routes[place], marks[place]))
+    Some(device_of(tables.routes[place], tables.marks[place]))
 }
 
 // The first router of a domain at a route.
-pub fn find_router(routes: &[u64], marks: &[u64], domain: u32, route: u64) -> Option<usize>
-    ensures { result ≡ router_from 0 (devices_in routes.now marks.now) domain route }
+pub fn find_router(tables: &Tables, domain: u32, route: u64) -> Option<usize>
+    ensures { result ≡ router_from 0 (devices_in tables.now.routes.now tables.now.marks.now) domain route }
 {
-    let mut i: usize = 0;
-    while i < routes.len() {
-        if marks.len() <= i {
+    for i in 0..tables.routes.len() {
+        if tables.marks.len() <= i {
             return None;
         }
-        if routes[i] == route {
-            let mark = marks[i];
+        if tables.routes[i] == route {
+            let mark = tables.marks[i];
             if mark / 281474976710656 % 16 == 1 {
                 if mark % 4294967296 == domain as u64 {
                     return Some(i);
                 }
             }
         }
-        i += 1;
     }
     None
 }

@@ -12,8 +12,9 @@ use Rattle.load.proofs.Example.{entry, plain_row, router_row, example_rows}
 use Rattle.fabric.specs.Links.{is_upstream, route_or, upstream_route_of, downstream_route_of}
 use Rattle.orbit.specs.Walk.{walk_n, hops_n, hop_at, onward, made, turned, arrive, found}
 use Rattle.fabric.specs.Fabric.{stand_by, stand_at, up_by, arrive_up, down_by, arrive_down, to_device, to_router, to_route, leads_from, leads_by, leads}
-use Rattle.walk.specs.Walking.{Stand, turn_by, walk_on, path_of}
+use Rattle.walk.specs.Walking.{turn_by, walk_on, path_of}
 use Rattle.walk.specs.Rule.{settled, walk_from}
+use Rattle.tables.specs.declared.Stand.{Stand}
 
 unfoldable pub stand : ℕ → ℕ → ℕ → Stand
 stand p a h = record { place = p; adapter = a; hop_id = h }

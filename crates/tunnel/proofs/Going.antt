@@ -15,10 +15,9 @@ use Rattle.refusal.specs.declared.Refusal.{Refusal}
 use Rattle.refusal.proofs.Laws.{refused_bind}
 use Rattle.orbit.specs.Walk.{Spot, Spot.stand, Spot.ended, Spot.stopped, found, arrive, turned, made, onward, walk_n}
 use Rattle.fabric.specs.Fabric.{Way, Way.on, Way.last, Way.dropped, leads}
-use Rattle.fabric.specs.Tables.{rows_with}
-use Rattle.walk.specs.Walking.{Stand, End, turn_by, walk_on}
+use Rattle.walk.specs.Walking.{End, turn_by, walk_on}
 use Rattle.walk.specs.Rule.{walk_from, stand_of}
-use Rattle.walk.specs.Tables.{rows_of, Tabled, Leaving, last_of, leaving_by, leaving_of, leaves, tally_outcome, Tallied}
+use Rattle.walk.specs.Tables.{Leaving, last_of, leaving_by, leaving_of, leaves, tally_outcome, Tallied}
 use Rattle.walk.proofs.Leading.{there_below, leads_there, upstreams}
 use Rattle.walk.proofs.Laws.{hopped, path_rule}
 use Rattle.path.proofs.Writing.{refused_as_lem}
@@ -29,6 +28,9 @@ use Rattle.tunnel.specs.Plans.{start_of}
 use Rattle.tunnel.specs.Work.{leaves_by}
 use Rattle.walk.specs.Tables.{walked_to}
 use Rattle.walk.specs.declared.Walked.{Walked}
+use Rattle.tables.specs.declared.Stand.{Stand}
+use Rattle.tables.specs.declared.Tables.{Tables}
+use Rattle.tables.specs.Tables.{Tabled, rows_of}
 
 -- ---- outcomes
 
@@ -126,42 +128,42 @@ path_start x s (e ∷ es) q =
     let h = hopped x s (e ∷ es) q in
     starts_at x s (stand_of e) ((path_rule x s h.count h.one h.ends).stands e 0 h.one ∙ ap (λ (l : List EntryRow). stand (stand_of (get_or l 0 e))) h.hops)
 
-module _ (en ad ro ma : List ℕ) (s : Stand) where
+module _ (tables : Tables) (s : Stand) where
   -- and its last hop is made at a device that is there
-  last_there : (e : EntryRow) (es : List EntryRow) → walk_from (rows_of en ad ro ma) s ≡ value (Some (e ∷ es)) → (last_of e es).device < length ro
+  last_there : (e : EntryRow) (es : List EntryRow) → walk_from (rows_of tables) s ≡ value (Some (e ∷ es)) → (last_of e es).device < length tables.routes.now
   unfolding rows_of stand_of
   last_there e es q =
-      let x = rows_of en ad ro ma in
-      let h = hopped (rows_of en ad ro ma) s (e ∷ es) q in
-      let w : walk_n (walk_on (rows_of en ad ro ma)) s (length es) ≡ stand (stand_of (last_of e es)) = (path_rule x s h.count h.one h.ends).stands e (length es) (omega (arith, h.long)) ∙ ap (λ (l : List EntryRow). stand (stand_of (get_or l (length es) e))) h.hops ∙ ap (λ y. stand (stand_of y)) (sym (last_at e e es)) in
-      subst (Below x s (length ro) (start_there en ad ro ma s (e ∷ es) q) goes) w (below x s (length ro) (start_there en ad ro ma s (e ∷ es) q) goes (length es))
+      let x = rows_of tables in
+      let h = hopped (rows_of tables) s (e ∷ es) q in
+      let w : walk_n (walk_on (rows_of tables)) s (length es) ≡ stand (stand_of (last_of e es)) = (path_rule x s h.count h.one h.ends).stands e (length es) (omega (arith, h.long)) ∙ ap (λ (l : List EntryRow). stand (stand_of (get_or l (length es) e))) h.hops ∙ ap (λ y. stand (stand_of y)) (sym (last_at e e es)) in
+      subst (Below x s (length tables.routes.now) (start_there tables s (e ∷ es) q) goes) w (below x s (length tables.routes.now) (start_there tables s (e ∷ es) q) goes (length es))
     where
-      goes : (p o q a : ℕ) → leads (rows_of en ad ro ma) p o ≡ value (on q a) → q < length ro
-      goes p o q a f = there_below (entries_in en) ad ro ma q (leads_there (rows_with (entries_in en) ad ro ma) (upstreams (entries_in en) ad ro ma) p o q a f)
+      goes : (p o q a : ℕ) → leads (rows_of tables) p o ≡ value (on q a) → q < length tables.routes.now
+      goes p o q a f = there_below tables q (leads_there (rows_of tables) (upstreams tables) p o q a f)
 
-  module _ (r : Result (Option Walked) Refusal) (f : Tallied en ad ro ma s r) (t : Tabled en ad ro) (l : s.place < 65536) where
-    pub tally_refused : {A : Type 0} (z : Refusal) (k : Option (List EntryRow) → Outcome A) → r ≡ Err z → refused_by z ≡ bind (walk_from (rows_of en ad ro ma) s) k
+  module _ (r : Result (Option Walked) Refusal) (f : Tallied tables s r) (t : Tabled tables) (l : s.place < 65536) where
+    pub tally_refused : {A : Type 0} (z : Refusal) (k : Option (List EntryRow) → Outcome A) → r ≡ Err z → refused_by z ≡ bind (walk_from (rows_of tables) s) k
     unfolding tally_outcome
-    tally_refused z k e = refuses (walk_from (rows_of en ad ro ma) s) leaves k z (sym (ap tally_outcome e) ∙ f.answers t l)
+    tally_refused z k e = refuses (walk_from (rows_of tables) s) leaves k z (sym (ap tally_outcome e) ∙ f.answers t l)
 
-    pub tally_absent : r ≡ (Ok None) → walk_from (rows_of en ad ro ma) s ≡ value None
+    pub tally_absent : r ≡ (Ok None) → walk_from (rows_of tables) s ≡ value None
     unfolding tally_outcome
-    tally_absent e = leaves_none (walk_from (rows_of en ad ro ma) s) (sym (ap tally_outcome e) ∙ f.answers t l) (λ q. let h = hopped (rows_of en ad ro ma) s [] q in omega (arith, h.one, h.long))
+    tally_absent e = leaves_none (walk_from (rows_of tables) s) (sym (ap tally_outcome e) ∙ f.answers t l) (λ q. let h = hopped (rows_of tables) s [] q in omega (arith, h.one, h.long))
 
-    pub tally_path : (n q a h : ℕ) → r ≡ walked_to n q a h → (hs : List EntryRow) × Went (rows_of en ad ro ma) s n q a (length ro) hs
+    pub tally_path : (n q a h : ℕ) → r ≡ walked_to n q a h → (hs : List EntryRow) × Went (rows_of tables) s n q a (length tables.routes.now) hs
     unfolding tally_outcome leaving leaves_by at
-    tally_path n q a h e = go (leaves_some (walk_from (rows_of en ad ro ma) s) (record { hops = n; place = q; adapter = a; hop_id = h }) (sym (ap tally_outcome e) ∙ f.answers t l))
+    tally_path n q a h e = go (leaves_some (walk_from (rows_of tables) s) (record { hops = n; place = q; adapter = a; hop_id = h }) (sym (ap tally_outcome e) ∙ f.answers t l))
       where
-        go : (y : EntryRow) × (ys : List EntryRow) × (walk_from (rows_of en ad ro ma) s ≡ value (Some (y ∷ ys))) × (suc (length ys) ≡ n) × ((last_of y ys).device ≡ q) × ((last_of y ys).out_adapter ≡ a)
-            → (hs : List EntryRow) × Went (rows_of en ad ro ma) s n q a (length ro) hs
+        go : (y : EntryRow) × (ys : List EntryRow) × (walk_from (rows_of tables) s ≡ value (Some (y ∷ ys))) × (suc (length ys) ≡ n) × ((last_of y ys).device ≡ q) × ((last_of y ys).out_adapter ≡ a)
+            → (hs : List EntryRow) × Went (rows_of tables) s n q a (length tables.routes.now) hs
         go (y, ys, w, c, d, o) = (
           y ∷ ys,
           record {
             walk = w;
             count = c;
-            start = path_start (rows_of en ad ro ma) s (y ∷ ys) w;
+            start = path_start (rows_of tables) s (y ∷ ys) w;
             leave = λ h. rw (d, o) refl;
             end = λ p b. rw (d, o) refl;
-            there = subst (λ p. p < length ro) d (last_there y ys w);
+            there = subst (λ p. p < length tables.routes.now) d (last_there y ys w);
           },
         )

@@ -14,9 +14,8 @@ use Rattle.tables.specs.Rows.{EntryRow, Rows}
 use Rattle.refusal.specs.Refusal.{refused_by}
 use Rattle.refusal.specs.declared.Refusal.{Refusal}
 use Rattle.refusal.proofs.Laws.{refused_bind}
-use Rattle.walk.specs.Walking.{Stand}
 use Rattle.walk.specs.Rule.{walk_from, stand_of}
-use Rattle.walk.specs.Tables.{rows_of, Tabled, Tallied}
+use Rattle.walk.specs.Tables.{Tallied}
 use Rattle.path.specs.Words.{path_words, words_needed}
 use Rattle.path.proofs.Writing.{length_path_words, stood}
 use Rattle.path.proofs.Answering.{hops_few}
@@ -30,6 +29,9 @@ use Rattle.tunnel.specs.declared.Plan.{Plan as Planned}
 use Rattle.tunnel.proofs.Going.{path_start, tally_refused, tally_absent, tally_path}
 use Rattle.walk.specs.Tables.{walked_to}
 use Rattle.walk.specs.declared.Walked.{Walked}
+use Rattle.tables.specs.declared.Stand.{Stand}
+use Rattle.tables.specs.declared.Tables.{Tables}
+use Rattle.tables.specs.Tables.{Tabled, rows_of}
 
 -- ---- a walk that must give a path
 
@@ -119,20 +121,20 @@ three_paths p a w s vs ts rs l e f g k = same_plan tunnel_type.DisplayPort
 abbrev pub Words : ℕ → ℕ → Type 0
 Words n w = (w ≤ 131071) × (n < 65536 → w ≡ 1 + 2 * n)
 
-module _ (en ad ro ma : List ℕ) (p : ℕ) where
-  pub plans_refused : (f : Rows → Outcome (Option Tunnel)) (z : Refusal) → (Tabled en ad ro → p < 65536 → refused_by z ≡ f (rows_of en ad ro ma)) → Plans en ad ro ma p f (Err z)
+module _ (tables : Tables) (p : ℕ) where
+  pub plans_refused : (f : Rows → Outcome (Option Tunnel)) (z : Refusal) → (Tabled tables → p < 65536 → refused_by z ≡ f (rows_of tables)) → Plans tables p f (Err z)
   unfolding planned_outcome words_by paths_by
   plans_refused f z g = record { answers = λ y t l. sym (refused_bind z (λ o. value (plan_if o))) ∙ ap planned (g t l); few = omega arith; three = omega arith }
 
-  pub plans_absent : (f : Rows → Outcome (Option Tunnel)) → (Tabled en ad ro → p < 65536 → value None ≡ f (rows_of en ad ro ma)) → Plans en ad ro ma p f (Ok None)
+  pub plans_absent : (f : Rows → Outcome (Option Tunnel)) → (Tabled tables → p < 65536 → value None ≡ f (rows_of tables)) → Plans tables p f (Ok None)
   unfolding planned_outcome words_by paths_by bind plan_if
   plans_absent f g = record { answers = λ y t l. ap planned (g t l); few = omega arith; three = omega arith }
 
-  pub draws_refused : (f : Rows → Outcome (Option Plan)) (z : Refusal) → (Tabled en ad ro → p < 65536 → refused_by z ≡ f (rows_of en ad ro ma)) → Draws en ad ro ma p f (Err z)
+  pub draws_refused : (f : Rows → Outcome (Option Plan)) (z : Refusal) → (Tabled tables → p < 65536 → refused_by z ≡ f (rows_of tables)) → Draws tables p f (Err z)
   unfolding planned_outcome words_by paths_by
   draws_refused f z g = record { answers = λ y t l. g t l; few = omega arith; three = omega arith }
 
-  pub draws_absent : (f : Rows → Outcome (Option Plan)) → (Tabled en ad ro → p < 65536 → value None ≡ f (rows_of en ad ro ma)) → Draws en ad ro ma p f (Ok None)
+  pub draws_absent : (f : Rows → Outcome (Option Plan)) → (Tabled tables → p < 65536 → value None ≡ f (rows_of tables)) → Draws tables p f (Ok None)
   unfolding planned_outcome words_by paths_by
   draws_absent f g = record { answers = λ y t l. g t l; few = omega arith; three = omega arith }
 
@@ -142,47 +144,47 @@ unfolding one_path
 one_answer w s {a} {b} {d} e f g = ap (λ z. planned_as tunnel_type.Dma false w 1 z b d) e ∙ ap (λ z. planned_as tunnel_type.Dma false w 1 s z d) f ∙ ap (λ z. planned_as tunnel_type.Dma false w 1 s s z) g
 
 -- the last path
-module _ (en ad ro ma : List ℕ) (kind : TunnelType) (words paths : ℕ) (first second last : Start) (r : Result (Option Walked) Refusal) (f : Tallied en ad ro ma (stood last.place last.adapter last.hop) r) where
-  pub finish_refused : (z : Refusal) → r ≡ Err z → Draws en ad ro ma last.place (λ x. finished x kind words paths first second last) (Err z)
+module _ (tables : Tables) (kind : TunnelType) (words paths : ℕ) (first second last : Start) (r : Result (Option Walked) Refusal) (f : Tallied tables (stood last.place last.adapter last.hop) r) where
+  pub finish_refused : (z : Refusal) → r ≡ Err z → Draws tables last.place (λ x. finished x kind words paths first second last) (Err z)
   unfolding finished needed at
-  finish_refused z e = draws_refused en ad ro ma _ _ z (λ t l. tally_refused en ad ro ma _ r f t l z _ e)
+  finish_refused z e = draws_refused tables _ _ z (λ t l. tally_refused tables _ r f t l z _ e)
 
-  pub finish_absent : r ≡ (Ok None) → Draws en ad ro ma last.place (λ x. finished x kind words paths first second last) (Ok None)
+  pub finish_absent : r ≡ (Ok None) → Draws tables last.place (λ x. finished x kind words paths first second last) (Ok None)
   unfolding finished at
-  finish_absent e = draws_absent en ad ro ma _ _ (λ t l. sym (needed_none _ _ _ (tally_absent en ad ro ma _ r f t l e)))
+  finish_absent e = draws_absent tables _ _ (λ t l. sym (needed_none _ _ _ (tally_absent tables _ r f t l e)))
 
   pub finish_path : (n q a h w : ℕ) (c : Bool) → r ≡ walked_to n q a h → c ≡ (eqb q first.place && eqb a first.adapter) → Words n w → words ≤ 262143 → paths ≤ 3
-      → Draws en ad ro ma last.place (λ x. finished x kind words paths first second last) (Ok (Some (planned_as kind c (words + w) paths first second last)))
+      → Draws tables last.place (λ x. finished x kind words paths first second last) (Ok (Some (planned_as kind c (words + w) paths first second last)))
   unfolding finished at last_plan planned_outcome words_by paths_by
   finish_path n q a h w c e g (m, k) v o = record {
     answers = λ y t l.
-        let u = tally_path en ad ro ma _ r f t l n q a h e in
+        let u = tally_path tables _ r f t l n q a h e in
         let hs = u.0 in
-        same_plan kind (g ∙ sym (u.1.end first.place first.adapter)) (omega (arith, u.1.count, k (omega (arith, hops_few en ad ro ma _ r y f n q a h e)))) refl
+        same_plan kind (g ∙ sym (u.1.end first.place first.adapter)) (omega (arith, u.1.count, k (omega (arith, hops_few tables _ r y f n q a h e)))) refl
         ∙ sym (needed_path _ _ u.0 _ u.1.walk);
     few = omega arith;
     three = o;
   }
 
 -- two paths
-module _ (en ad ro ma : List ℕ) (p a : ℕ) (kind : TunnelType) (down up : ℕ) (r : Result (Option Walked) Refusal) (f : Tallied en ad ro ma (stood p a 8) r) where
-  pub down_refused : (z : Refusal) → r ≡ Err z → Plans en ad ro ma p (λ x. down_and_up x kind down up p a) (Err z)
+module _ (tables : Tables) (p a : ℕ) (kind : TunnelType) (down up : ℕ) (r : Result (Option Walked) Refusal) (f : Tallied tables (stood p a 8) r) where
+  pub down_refused : (z : Refusal) → r ≡ Err z → Plans tables p (λ x. down_and_up x kind down up p a) (Err z)
   unfolding down_and_up needed at
-  down_refused z e = plans_refused en ad ro ma p _ z (λ t l. tally_refused en ad ro ma _ r f t l z _ e)
+  down_refused z e = plans_refused tables p _ z (λ t l. tally_refused tables _ r f t l z _ e)
 
-  pub down_absent : r ≡ (Ok None) → Plans en ad ro ma p (λ x. down_and_up x kind down up p a) (Ok None)
+  pub down_absent : r ≡ (Ok None) → Plans tables p (λ x. down_and_up x kind down up p a) (Ok None)
   unfolding down_and_up at
-  down_absent e = plans_absent en ad ro ma p _ (λ t l. sym (needed_none _ _ _ (tally_absent en ad ro ma _ r f t l e)))
+  down_absent e = plans_absent tables p _ (λ t l. sym (needed_none _ _ _ (tally_absent tables _ r f t l e)))
 
   pub down_path : (n q b h w : ℕ) (first second third : Start) (y : Result (Option Planned) Refusal) → r ≡ walked_to n q b h → Words n w → first ≡ start_by (at p a 8) down → second ≡ start_by (at q b 8) up → third ≡ start_by (at q b 8) up
-      → Draws en ad ro ma third.place (λ x. finished x kind (1 + w) 2 first second third) y → Plans en ad ro ma p (λ x. down_and_up x kind down up p a) y
+      → Draws tables third.place (λ x. finished x kind (1 + w) 2 first second third) y → Plans tables p (λ x. down_and_up x kind down up p a) y
   unfolding down_and_up at finished last_plan start_by from_by
   down_path n q b h w first second third y e (m, k) i j o d = record {
     answers = λ v t l.
-        let x = rows_of en ad ro ma in
-        let u = tally_path en ad ro ma _ r f t l n q b h e in
+        let x = rows_of tables in
+        let u = tally_path tables _ r f t l n q b h e in
         let ds = u.0 in
-        let few = hops_few en ad ro ma _ r v f n q b h e in
+        let few = hops_few tables _ r v f n q b h e in
         d.answers v t (omega (arith, ap (λ (s : Start). s.place) o, u.1.there, t.devices))
         ∙ ap (λ s. finished x kind (1 + w) 2 s second third) i
         ∙ ap (λ s. finished x kind (1 + w) 2 (start_by (at p a 8) down) s third) j
@@ -196,23 +198,23 @@ module _ (en ad ro ma : List ℕ) (p a : ℕ) (kind : TunnelType) (down up : ℕ
   }
 
 -- AUX TX, then AUX RX from where it leaves
-module _ (en ad ro ma : List ℕ) (p a words : ℕ) (r : Result (Option Walked) Refusal) (f : Tallied en ad ro ma (stood p a 8) r) where
-  pub aux_refused : (z : Refusal) → r ≡ Err z → Draws en ad ro ma p (λ x. auxiliary x p a words) (Err z)
+module _ (tables : Tables) (p a words : ℕ) (r : Result (Option Walked) Refusal) (f : Tallied tables (stood p a 8) r) where
+  pub aux_refused : (z : Refusal) → r ≡ Err z → Draws tables p (λ x. auxiliary x p a words) (Err z)
   unfolding auxiliary needed at
-  aux_refused z e = draws_refused en ad ro ma p _ z (λ t l. tally_refused en ad ro ma _ r f t l z _ e)
+  aux_refused z e = draws_refused tables p _ z (λ t l. tally_refused tables _ r f t l z _ e)
 
-  pub aux_absent : r ≡ (Ok None) → Draws en ad ro ma p (λ x. auxiliary x p a words) (Ok None)
+  pub aux_absent : r ≡ (Ok None) → Draws tables p (λ x. auxiliary x p a words) (Ok None)
   unfolding auxiliary at
-  aux_absent e = draws_absent en ad ro ma p _ (λ t l. sym (needed_none _ _ _ (tally_absent en ad ro ma _ r f t l e)))
+  aux_absent e = draws_absent tables p _ (λ t l. sym (needed_none _ _ _ (tally_absent tables _ r f t l e)))
 
   pub aux_path : (n q b h w : ℕ) (first second third : Start) (y : Result (Option Planned) Refusal) → r ≡ walked_to n q b h → Words n w → first ≡ start_by (at p a 9) 2 → second ≡ start_by (at p a 8) 3 → third ≡ start_by (at q b 8) 4
-      → Draws en ad ro ma third.place (λ x. finished x tunnel_type.DisplayPort (words + w) 3 first second third) y → Draws en ad ro ma p (λ x. auxiliary x p a words) y
+      → Draws tables third.place (λ x. finished x tunnel_type.DisplayPort (words + w) 3 first second third) y → Draws tables p (λ x. auxiliary x p a words) y
   unfolding auxiliary at start_by
   aux_path n q b h w first second third y e (m, k) i j o d = record {
     answers = λ v t l.
-        let x = rows_of en ad ro ma in
-        let u = tally_path en ad ro ma _ r f t l n q b h e in
-        let few = hops_few en ad ro ma _ r v f n q b h e in
+        let x = rows_of tables in
+        let u = tally_path tables _ r f t l n q b h e in
+        let few = hops_few tables _ r v f n q b h e in
         d.answers v t (omega (arith, ap (λ (s : Start). s.place) o, u.1.there, t.devices))
         ∙ ap (λ s. finished x tunnel_type.DisplayPort (words + w) 3 s second third) i
         ∙ ap (λ s. finished x tunnel_type.DisplayPort (words + w) 3 (start_by (at p a 9) 2) s third) j
@@ -224,22 +226,22 @@ module _ (en ad ro ma : List ℕ) (p a words : ℕ) (r : Result (Option Walked) 
   }
 
 -- three paths
-module _ (en ad ro ma : List ℕ) (p a : ℕ) (r : Result (Option Walked) Refusal) (f : Tallied en ad ro ma (stood p a 9) r) where
-  pub video_refused : (z : Refusal) → r ≡ Err z → Plans en ad ro ma p (λ x. display_port x p a) (Err z)
+module _ (tables : Tables) (p a : ℕ) (r : Result (Option Walked) Refusal) (f : Tallied tables (stood p a 9) r) where
+  pub video_refused : (z : Refusal) → r ≡ Err z → Plans tables p (λ x. display_port x p a) (Err z)
   unfolding display_port needed at
-  video_refused z e = plans_refused en ad ro ma p _ z (λ t l. tally_refused en ad ro ma _ r f t l z _ e)
+  video_refused z e = plans_refused tables p _ z (λ t l. tally_refused tables _ r f t l z _ e)
 
-  pub video_absent : r ≡ (Ok None) → Plans en ad ro ma p (λ x. display_port x p a) (Ok None)
+  pub video_absent : r ≡ (Ok None) → Plans tables p (λ x. display_port x p a) (Ok None)
   unfolding display_port at
-  video_absent e = plans_absent en ad ro ma p _ (λ t l. sym (needed_none _ _ _ (tally_absent en ad ro ma _ r f t l e)))
+  video_absent e = plans_absent tables p _ (λ t l. sym (needed_none _ _ _ (tally_absent tables _ r f t l e)))
 
-  pub video_path : (n q b h w : ℕ) (y : Result (Option Planned) Refusal) → r ≡ walked_to n q b h → Words n w → Draws en ad ro ma p (λ x. auxiliary x p a (1 + w)) y → Plans en ad ro ma p (λ x. display_port x p a) y
+  pub video_path : (n q b h w : ℕ) (y : Result (Option Planned) Refusal) → r ≡ walked_to n q b h → Words n w → Draws tables p (λ x. auxiliary x p a (1 + w)) y → Plans tables p (λ x. display_port x p a) y
   unfolding display_port auxiliary at finished last_plan start_by from_by
   video_path n q b h w y e (m, k) d = record {
     answers = λ v t l.
-        let x = rows_of en ad ro ma in
-        let u = tally_path en ad ro ma _ r f t l n q b h e in
-        let few = hops_few en ad ro ma _ r v f n q b h e in
+        let x = rows_of tables in
+        let u = tally_path tables _ r f t l n q b h e in
+        let few = hops_few tables _ r v f n q b h e in
         d.answers v t l
         ∙ needed_same x (at p a 8) _ _ (λ ts i. needed_same x (leaving 8 ts) _ _ (λ rs j.
         sym (three_paths p a w (leaving 8 ts) u.0 ts rs (omega (arith, u.1.count, few)) u.1.start (path_start x (at p a 8) ts i) (path_start x (leaving 8 ts) rs j) (k (omega (arith, few)) ∙ ap (λ c. 1 + 2 * c) (sym u.1.count))))

@@ -13,8 +13,7 @@ use Rattle.tables.specs.Rows.{EntryRow, DeviceRow, Rows}
 use Rattle.refusal.specs.declared.Refusal.{Refusal}
 use Rattle.refusal.proofs.Laws.{refused_bind}
 use Rattle.walk.specs.Rule.{stand_of}
-use Rattle.walk.specs.Tables.{rows_of, last_of, leaving_by, Tallied}
-use Rattle.path.specs.Put.{Sized}
+use Rattle.walk.specs.Tables.{last_of, leaving_by, Tallied}
 use Rattle.path.proofs.Writing.{stood}
 use Rattle.path.proofs.Answering.{hops_few}
 use Rattle.receive.specs.Receive.{at, Lane, Lane.lane, Lane.passed, Lane.dropped as drop, lane_of, Receive, Receive.received, Receive.nothing, Receive.lost, uses_ring, or_rest, among_hops, at_lane, or_next, among_devices, receive}
@@ -30,6 +29,8 @@ use Rattle.tunnel.proofs.Going.{tally_refused, tally_absent, tally_path}
 use Rattle.tunnel.proofs.Planning.{planned, Words, plan, from, same_plan, one_plan_lem, two_paths, plans_refused, draws_refused}
 use Rattle.walk.specs.Tables.{walked_to}
 use Rattle.walk.specs.declared.Walked.{Walked}
+use Rattle.tables.specs.declared.Tables.{Tables}
+use Rattle.tables.specs.Tables.{Sized, rows_of}
 
 -- ---- a receive path has a hop
 
@@ -109,47 +110,47 @@ with_plan_lem p a ring w ts (value lost) l e f k = refl
 
 -- ---- what is answered of the search
 
-module _ (en ad ro ma : List ℕ) (ring : ℕ) (r : Result Received Refusal) (f : Receives en ad ro ma ring r) where
-  pub ring_refused : (g : Said → Option Plan) (z : Refusal) → r ≡ Err z → Draws en ad ro ma 0 (λ x. ring_by x ring g) (Err z)
+module _ (tables : Tables) (ring : ℕ) (r : Result Received Refusal) (f : Receives tables ring r) where
+  pub ring_refused : (g : Said → Option Plan) (z : Refusal) → r ≡ Err z → Draws tables 0 (λ x. ring_by x ring g) (Err z)
   unfolding ring_by received_outcome
-  ring_refused g z e = draws_refused en ad ro ma 0 _ z (λ t l. sym (refused_bind z (λ v. value (g v))) ∙ ap (λ o. bind o (λ v. value (g v))) (sym (ap (received_outcome ring) e) ∙ f.answers t))
+  ring_refused g z e = draws_refused tables 0 _ z (λ t l. sym (refused_bind z (λ v. value (g v))) ∙ ap (λ o. bind o (λ v. value (g v))) (sym (ap (received_outcome ring) e) ∙ f.answers t))
 
   -- what is said of it is put in
-  ring_says : (g : Said → Option Plan) (v : Said) (y : Result (Option Planned) Refusal) → received_outcome ring r ≡ value v → (Sized en ro → planned_outcome y ≡ value (g v)) → words_by y ≤ 1048576 → paths_by y ≤ 3 → Draws en ad ro ma 0 (λ x. ring_by x ring g) y
+  ring_says : (g : Said → Option Plan) (v : Said) (y : Result (Option Planned) Refusal) → received_outcome ring r ≡ value v → (Sized tables → planned_outcome y ≡ value (g v)) → words_by y ≤ 1048576 → paths_by y ≤ 3 → Draws tables 0 (λ x. ring_by x ring g) y
   unfolding ring_by bind
   ring_says g v y e h k j = record { answers = λ z t l. h z ∙ ap (λ o. bind o (λ v. value (g v))) (sym e ∙ f.answers t); few = k; three = j }
 
-  pub alone_lost : r ≡ Ok found.Lost → Draws en ad ro ma 0 (λ x. ring_by x ring alone_plan) (Ok None)
+  pub alone_lost : r ≡ Ok found.Lost → Draws tables 0 (λ x. ring_by x ring alone_plan) (Ok None)
   unfolding received_outcome planned_outcome words_by paths_by alone_plan
   alone_lost e = ring_says alone_plan dropped (Ok None) (ap (received_outcome ring) e) (λ z. refl) (omega arith) (omega arith)
 
-  pub alone_nothing : r ≡ Ok found.Nothing → Draws en ad ro ma 0 (λ x. ring_by x ring alone_plan) (Ok None)
+  pub alone_nothing : r ≡ Ok found.Nothing → Draws tables 0 (λ x. ring_by x ring alone_plan) (Ok None)
   unfolding received_outcome planned_outcome words_by paths_by alone_plan
   alone_nothing e = ring_says alone_plan said-none (Ok None) (ap (received_outcome ring) e) (λ z. refl) (omega arith) (omega arith)
 
-  few_hops : (q n h k o b : ℕ) → r ≡ Ok (found.Path (path_of q n h k o b)) → Sized en ro → k ≤ 4096
+  few_hops : (q n h k o b : ℕ) → r ≡ Ok (found.Path (path_of q n h k o b)) → Sized tables → k ≤ 4096
   unfolding hops_by
-  few_hops q n h k o b e z = let v : k ≤ length en = subst (λ y. hops_by y ≤ length en) e f.few in omega (arith, z.entries)
+  few_hops q n h k o b e z = let v : k ≤ length tables.entries.now = subst (λ y. hops_by y ≤ length tables.entries.now) e f.few in omega (arith, z.entries)
 
-  pub alone_path : (q n h k o b w : ℕ) (y : Planned) → r ≡ Ok (found.Path (path_of q n h k o b)) → Words k w → y ≡ one_path (1 + w) (start_by (at q n h) 8) → Draws en ad ro ma 0 (λ x. ring_by x ring alone_plan) (Ok (Some y))
+  pub alone_path : (q n h k o b w : ℕ) (y : Planned) → r ≡ Ok (found.Path (path_of q n h k o b)) → Words k w → y ≡ one_path (1 + w) (start_by (at q n h) 8) → Draws tables 0 (λ x. ring_by x ring alone_plan) (Ok (Some y))
   unfolding received_outcome planned_outcome words_by paths_by alone_plan one_path one_plan start_by from_by at
-  alone_path q n h k o b w y e (m, g) i = subst (λ z. Draws en ad ro ma 0 (λ x. ring_by x ring alone_plan) (Ok (Some z))) (sym i)
+  alone_path q n h k o b w y e (m, g) i = subst (λ z. Draws tables 0 (λ x. ring_by x ring alone_plan) (Ok (Some z))) (sym i)
       (ring_says alone_plan _ (Ok (Some (one_path (1 + w) (start_by (at q n h) 8)))) (ap (received_outcome ring) e)
       (λ z. ap (λ c. value (Some (plan tunnel_type.Dma false (1 + c) (from (at q n h) 8 ∷ [])))) (g (omega (arith, few_hops q n h k o b e z))))
       (omega arith) (omega arith))
 
   module _ (p a words : ℕ) (few : words ≤ 131072) where
-    pub with_lost : r ≡ Ok found.Lost → Draws en ad ro ma 0 (λ x. ring_by x ring (with_plan (at p a ring) words)) (Ok None)
+    pub with_lost : r ≡ Ok found.Lost → Draws tables 0 (λ x. ring_by x ring (with_plan (at p a ring) words)) (Ok None)
     unfolding received_outcome planned_outcome words_by paths_by with_plan
     with_lost e = ring_says (with_plan (at p a ring) words) dropped (Ok None) (ap (received_outcome ring) e) (λ z. refl) (omega arith) (omega arith)
 
-    pub with_nothing : (y : Planned) → r ≡ Ok found.Nothing → y ≡ one_path words (start_by (at p a ring) 7) → Draws en ad ro ma 0 (λ x. ring_by x ring (with_plan (at p a ring) words)) (Ok (Some y))
+    pub with_nothing : (y : Planned) → r ≡ Ok found.Nothing → y ≡ one_path words (start_by (at p a ring) 7) → Draws tables 0 (λ x. ring_by x ring (with_plan (at p a ring) words)) (Ok (Some y))
     unfolding received_outcome planned_outcome words_by paths_by with_plan one_path one_plan start_by from_by at
-    with_nothing y e i = subst (λ z. Draws en ad ro ma 0 (λ x. ring_by x ring (with_plan (at p a ring) words)) (Ok (Some z))) (sym i)
+    with_nothing y e i = subst (λ z. Draws tables 0 (λ x. ring_by x ring (with_plan (at p a ring) words)) (Ok (Some z))) (sym i)
         (ring_says (with_plan (at p a ring) words) said-none (Ok (Some (one_path words (start_by (at p a ring) 7)))) (ap (received_outcome ring) e) (λ z. refl) (omega arith) (omega arith))
 
     pub with_path_lem : (q n h k o b w : ℕ) (c : Bool) (first second third : Start) → r ≡ Ok (found.Path (path_of q n h k o b)) → Words k w → c ≡ (eqb o p && eqb b a) → first ≡ start_by (at p a ring) 7 → second ≡ start_by (at q n h) 8
-        → Draws en ad ro ma 0 (λ x. ring_by x ring (with_plan (at p a ring) words)) (Ok (Some (planned_as tunnel_type.Dma c (words + w) 2 first second third)))
+        → Draws tables 0 (λ x. ring_by x ring (with_plan (at p a ring) words)) (Ok (Some (planned_as tunnel_type.Dma c (words + w) 2 first second third)))
     unfolding received_outcome planned_outcome words_by paths_by with_plan start_by from_by at
     with_path_lem q n h k o b w c first second third e (m, g) i j v =
         ring_says (with_plan (at p a ring) words) _ _ (ap (received_outcome ring) e)
@@ -158,29 +159,29 @@ module _ (en ad ro ma : List ℕ) (ring : ℕ) (r : Result Received Refusal) (f 
 
 -- ---- a ring's tunnel
 
-module _ (en ad ro ma : List ℕ) (p a ring : ℕ) (r : Result (Option Walked) Refusal) (f : Tallied en ad ro ma (stood p a ring) r) where
-  pub dma_refused : (z : Refusal) → r ≡ Err z → Plans en ad ro ma p (λ x. one_dma x p a ring) (Err z)
+module _ (tables : Tables) (p a ring : ℕ) (r : Result (Option Walked) Refusal) (f : Tallied tables (stood p a ring) r) where
+  pub dma_refused : (z : Refusal) → r ≡ Err z → Plans tables p (λ x. one_dma x p a ring) (Err z)
   unfolding one_dma at
-  dma_refused z e = plans_refused en ad ro ma p _ z (λ t l. tally_refused en ad ro ma _ r f t l z _ e)
+  dma_refused z e = plans_refused tables p _ z (λ t l. tally_refused tables _ r f t l z _ e)
 
-  pub dma_alone : (y : Result (Option Planned) Refusal) → r ≡ (Ok None) → Draws en ad ro ma 0 (λ x. ring_by x ring alone_plan) y → Plans en ad ro ma p (λ x. one_dma x p a ring) y
+  pub dma_alone : (y : Result (Option Planned) Refusal) → r ≡ (Ok None) → Draws tables 0 (λ x. ring_by x ring alone_plan) y → Plans tables p (λ x. one_dma x p a ring) y
   unfolding one_dma at ring_by bind
   dma_alone y e d = record {
     answers = λ v t l.
-        let x = rows_of en ad ro ma in
+        let x = rows_of tables in
         d.answers v t (omega arith) ∙ alone_plan_lem (receive x ring) (hops_received x ring)
-        ∙ ap (λ o. planned (bind o (λ tx. bind (receive x ring) (λ u. value (ring_tunnel tx u))))) (sym (tally_absent en ad ro ma _ r f t l e));
+        ∙ ap (λ o. planned (bind o (λ tx. bind (receive x ring) (λ u. value (ring_tunnel tx u))))) (sym (tally_absent tables _ r f t l e));
     few = d.few;
     three = d.three;
   }
 
-  pub dma_with : (n q b h w : ℕ) (y : Result (Option Planned) Refusal) → r ≡ walked_to n q b h → Words n w → Draws en ad ro ma 0 (λ x. ring_by x ring (with_plan (at p a ring) (1 + w))) y → Plans en ad ro ma p (λ x. one_dma x p a ring) y
+  pub dma_with : (n q b h w : ℕ) (y : Result (Option Planned) Refusal) → r ≡ walked_to n q b h → Words n w → Draws tables 0 (λ x. ring_by x ring (with_plan (at p a ring) (1 + w))) y → Plans tables p (λ x. one_dma x p a ring) y
   unfolding one_dma at ring_by bind
   dma_with n q b h w y e (m, k) d = record {
     answers = λ v t l.
-        let x = rows_of en ad ro ma in
-        let u = tally_path en ad ro ma _ r f t l n q b h e in
-        let few = hops_few en ad ro ma _ r v f n q b h e in
+        let x = rows_of tables in
+        let u = tally_path tables _ r f t l n q b h e in
+        let few = hops_few tables _ r v f n q b h e in
         d.answers v t (omega arith)
         ∙ with_plan_lem p a ring w u.0 (receive x ring) (omega (arith, u.1.count, few)) u.1.start (k (omega (arith, few)) ∙ ap (λ c. 1 + 2 * c) (sym u.1.count)) (hops_received x ring)
         ∙ ap (λ o. planned (bind o (λ tx. bind (receive x ring) (λ z. value (ring_tunnel tx z))))) (sym u.1.walk);

@@ -5,10 +5,7 @@ use Rattle.usb4.specs.declared.TunnelType.{TunnelType}
 use Rattle.tables.specs.Rows.{EntryRow, Rows}
 use Rattle.refusal.specs.Refusal.{refused_by}
 use Rattle.refusal.specs.declared.Refusal.{Refusal}
-use Rattle.walk.specs.Walking.{Stand}
 use Rattle.walk.specs.Rule.{stand_of}
-use Rattle.walk.specs.Tables.{rows_of, Tabled}
-use Rattle.path.specs.Put.{Sized}
 use Rattle.receive.specs.Receive.{at}
 use Rattle.receive.specs.Tables.{Receives}
 use Rattle.receive.specs.declared.Received.{Received}
@@ -16,6 +13,9 @@ use Rattle.tunnel.specs.Tunnels.{Path, Tunnel, one_dma}
 use Rattle.tunnel.specs.Words.{closed, tunnel_words}
 use Rattle.tunnel.specs.declared.Start.{Start}
 use Rattle.tunnel.specs.declared.Plan.{Plan as Planned}
+use Rattle.tables.specs.declared.Stand.{Stand}
+use Rattle.tables.specs.declared.Tables.{Tables}
+use Rattle.tables.specs.Tables.{Sized, Tabled, rows_of}
 
 -- a path's name, and where its first hop stands
 pub record From : Type 0 where
@@ -67,13 +67,13 @@ paths_by (Ok None) = 0
 paths_by (Err r) = 0
 
 -- For a place that a key has room for, in tables in order and no larger than a survey's, it is the plan of the tunnel that f says of their rows. Else it is free, but that it has at most three paths and 1,048,576 words.
-pub record Plans (en ad ro ma : List ℕ) (p : ℕ) (f : Rows → Outcome (Option Tunnel)) (r : Result (Option Planned) Refusal) : Type 0 where
-  pub answers : Sized en ro → Tabled en ad ro → p < 65536 → planned_outcome r ≡ bind (f (rows_of en ad ro ma)) (λ o. value (plan_if o))
+pub record Plans (tables : Tables) (p : ℕ) (f : Rows → Outcome (Option Tunnel)) (r : Result (Option Planned) Refusal) : Type 0 where
+  pub answers : Sized tables → Tabled tables → p < 65536 → planned_outcome r ≡ bind (f (rows_of tables)) (λ o. value (plan_if o))
   pub few : words_by r ≤ 1048576
   pub three : paths_by r ≤ 3
 
 -- The plan of a ring's tunnel by what a search for its receive path came to. For anything else that is handed in it is free, but for the same bounds.
-pub record RingPlans (en ad ro ma : List ℕ) (p a ring : ℕ) (received : Result Received Refusal) (r : Result (Option Planned) Refusal) : Type 0 where
-  pub plans : Receives en ad ro ma ring received → Plans en ad ro ma p (λ x. one_dma x p a ring) r
+pub record RingPlans (tables : Tables) (p a ring : ℕ) (received : Result Received Refusal) (r : Result (Option Planned) Refusal) : Type 0 where
+  pub plans : Receives tables ring received → Plans tables p (λ x. one_dma x p a ring) r
   pub few : words_by r ≤ 1048576
   pub three : paths_by r ≤ 3

@@ -10,10 +10,10 @@ use Rattle.usb4.specs.declared.TunnelType.TheVariants as tunnel_type
 use Rattle.state.specs.State.{is_enabled}
 use Rattle.adapter.specs.Adapter.{AdapterRow, min_hop}
 use Rattle.tables.specs.Rows.{EntryRow, Rows}
-use Rattle.walk.specs.Walking.{Stand}
 use Rattle.walk.specs.Rule.{walk_from}
 use Rattle.walk.specs.Tables.{last_of}
 use Rattle.receive.specs.Receive.{at, Receive, Receive.received, Receive.nothing, Receive.lost, receive}
+use Rattle.tables.specs.declared.Stand.{Stand}
 
 -- a path with its name, by document 01's numbers
 pub record Path : Type 0 where

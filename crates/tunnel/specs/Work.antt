@@ -4,9 +4,7 @@ use Rattle.refusal.specs.Outcome.{Outcome, value, bind}
 use Rattle.usb4.specs.declared.TunnelType.{TunnelType}
 use Rattle.usb4.specs.declared.TunnelType.TheVariants as tunnel_type
 use Rattle.tables.specs.Rows.{EntryRow, Rows}
-use Rattle.walk.specs.Walking.{Stand}
-use Rattle.walk.specs.Tables.{rows_of, Tabled, last_of}
-use Rattle.path.specs.Put.{Sized}
+use Rattle.walk.specs.Tables.{last_of}
 use Rattle.receive.specs.Receive.{at, receive}
 use Rattle.receive.specs.Tables.{Said, Said.path, Said.none as nothing, Said.dropped, said_of}
 use Rattle.tunnel.specs.Tunnels.{leaving, needed}
@@ -14,10 +12,13 @@ use Rattle.tunnel.specs.Plans.{Plan, from_by, planned_as, planned_outcome, words
 use Rattle.tunnel.specs.declared.Start.{Start}
 use Rattle.tunnel.specs.declared.Plan.{Plan as Planned}
 use Rattle.refusal.specs.declared.Refusal.{Refusal}
+use Rattle.tables.specs.declared.Stand.{Stand}
+use Rattle.tables.specs.declared.Tables.{Tables}
+use Rattle.tables.specs.Tables.{Sized, Tabled, rows_of}
 
 -- as `Plans`, where f says the plan itself
-pub record Draws (en ad ro ma : List ℕ) (p : ℕ) (f : Rows → Outcome (Option Plan)) (r : Result (Option Planned) Refusal) : Type 0 where
-  pub answers : Sized en ro → Tabled en ad ro → p < 65536 → planned_outcome r ≡ f (rows_of en ad ro ma)
+pub record Draws (tables : Tables) (p : ℕ) (f : Rows → Outcome (Option Plan)) (r : Result (Option Planned) Refusal) : Type 0 where
+  pub answers : Sized tables → Tabled tables → p < 65536 → planned_outcome r ≡ f (rows_of tables)
   pub few : words_by r ≤ 1048576
   pub three : paths_by r ≤ 3
 

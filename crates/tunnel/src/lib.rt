@@ -82,10 +82,7 @@ fn same(place: usize, adapter: u8, other_place: usize, other_adapter: u8) -> boo
 
 // The last path of a tunnel, and with it the tunnel: closed where that path leaves by the place and adapter of the first.
 fn finish(
-    entries: &[u64],
-    adapters: &[u64],
-    routes: &[u64],
-    marks: &[u64],
+    tables: &Tables,
     kind: TunnelType,
     words: usize,
     paths: u8,
@@ -94,12 +91,12 @@ fn finish(
     last: Start,
 ) -> Result<Option<Plan>, Refusal>
     requires { (words ≤ 262143) × (paths ≤ 3) }
-    ensures { Draws entries.now adapters.now routes.now marks.now last.place (λ x. finished x kind words paths first second last) result }
+    ensures { Draws tables.now last.place (λ x. finished x kind words paths first second last) result }
 {
     let place = last.place;
     let adapter = last.adapter;
     let hop = last.hop;
-    let walked = walk::tally(entries, adapters, routes, marks, place, adapter, hop)?;
+    let walked = walk::tally(tables, place, adapter, hop)?;
     let Some(w) = walked else {
         return Ok(None);
     };
@@ -116,27 +113,21 @@ fn finish(
 
 // USB 3 and PCIe: down from the adapter, then up from where that path leaves.
 pub fn down_and_up(
-    entries: &[u64],
-    adapters: &[u64],
-    routes: &[u64],
-    marks: &[u64],
+    tables: &Tables,
     place: usize,
     adapter: u8,
     kind: TunnelType,
     down: u8,
     up: u8,
 ) -> Result<Option<Plan>, Refusal>
-    ensures { Plans entries.now adapters.now routes.now marks.now place (λ x. down_and_up x kind down up place adapter) result }
+    ensures { Plans tables.now place (λ x. down_and_up x kind down up place adapter) result }
 {
-    let walked = walk::tally(entries, adapters, routes, marks, place, adapter, USB3_HOPID)?;
+    let walked = walk::tally(tables, place, adapter, USB3_HOPID)?;
     let Some(w) = walked else {
         return Ok(None);
     };
     finish(
-        entries,
-        adapters,
-        routes,
-        marks,
+        tables,
         kind,
         1 + path_words(w.hops),
         2,
@@ -148,27 +139,21 @@ pub fn down_and_up(
 
 // AUX TX and AUX RX, where a tunnel's head and its Video path have so many words.
 fn aux(
-    entries: &[u64],
-    adapters: &[u64],
-    routes: &[u64],
-    marks: &[u64],
+    tables: &Tables,
     place: usize,
     adapter: u8,
     words: usize,
 ) -> Result<Option<Plan>, Refusal>
     requires { words ≤ 131072 }
-    ensures { Draws entries.now adapters.now routes.now marks.now place (λ x. auxiliary x place adapter words) result }
+    ensures { Draws tables.now place (λ x. auxiliary x place adapter words) result }
 {
     let tx = DP_AUX_TX_HOPID;
-    let walked = walk::tally(entries, adapters, routes, marks, place, adapter, tx)?;
+    let walked = walk::tally(tables, place, adapter, tx)?;
     let Some(w) = walked else {
         return Ok(None);
     };
     finish(
-        entries,
-        adapters,
-        routes,
-        marks,
+        tables,
         TunnelType::DisplayPort,
         words + path_words(w.hops),
         3,
@@ -180,25 +165,19 @@ fn aux(
 
 // DisplayPort: Video, AUX TX, then AUX RX from where AUX TX leaves.
 pub fn display_port(
-    entries: &[u64],
-    adapters: &[u64],
-    routes: &[u64],
-    marks: &[u64],
+    tables: &Tables,
     place: usize,
     adapter: u8,
 ) -> Result<Option<Plan>, Refusal>
-    ensures { Plans entries.now adapters.now routes.now marks.now place (λ x. display_port x place adapter) result }
+    ensures { Plans tables.now place (λ x. display_port x place adapter) result }
 {
     let video = DP_VIDEO_HOPID;
-    let walked = walk::tally(entries, adapters, routes, marks, place, adapter, video)?;
+    let walked = walk::tally(tables, place, adapter, video)?;
     let Some(w) = walked else {
         return Ok(None);
     };
     aux(
-        entries,
-        adapters,
-        routes,
-        marks,
+        tables,
         place,
         adapter,
         1 + path_words(w.hops),
@@ -222,7 +201,7 @@ fn one_path(words: usize, place: usize, adapter: u8, hop: u16, name: u8) -> Plan
 
 // A ring's tunnel without a DMA TX path, by what the search for its receive path came to.
 fn receive_alone(received: Result<Received, Refusal>) -> Result<Option<Plan>, Refusal>
-    ensures { ((en ad ro ma : List ℕ) (ring : ℕ) → Receives en ad ro ma ring received → Draws en ad ro ma 0 (λ x. ring_by x ring alone_plan) result) × (words_by result ≤ 1048576) × (paths_by result ≤ 3) }
+    ensures { ((tables : Tables) (ring : ℕ) → Receives tables ring received → Draws tables 0 (λ x. ring_by x ring alone_plan) result) × (words_by result ≤ 1048576) × (paths_by result ≤ 3) }
 {
     let found = received?;
     match found {
@@ -244,7 +223,7 @@ fn receive_with(
     received: Result<Received, Refusal>,
 ) -> Result<Option<Plan>, Refusal>
     requires { words ≤ 131072 }
-    ensures { ((en ad ro ma : List ℕ) → Receives en ad ro ma ring received → Draws en ad ro ma 0 (λ x. ring_by x ring (with_plan (at place adapter ring) words)) result) × (words_by result ≤ 1048576) × (paths_by result ≤ 3) }
+    ensures { ((tables : Tables) → Receives tables ring received → Draws tables 0 (λ x. ring_by x ring (with_plan (at place adapter ring) words)) result) × (words_by result ≤ 1048576) × (paths_by result ≤ 3) }
 {
     let found = received?;
     match found {
@@ -267,18 +246,15 @@ fn receive_with(
 
 // A ring's tunnel: DMA TX from the adapter, and the receive path of the ring, which was sought before. Refused first by the former.
 pub fn one_dma(
-    entries: &[u64],
-    adapters: &[u64],
-    routes: &[u64],
-    marks: &[u64],
+    tables: &Tables,
     place: usize,
     adapter: u8,
     ring: u16,
     received: Result<Received, Refusal>,
 ) -> Result<Option<Plan>, Refusal>
-    ensures { RingPlans entries.now adapters.now routes.now marks.now place adapter ring received result }
+    ensures { RingPlans tables.now place adapter ring received result }
 {
-    let walked = walk::tally(entries, adapters, routes, marks, place, adapter, ring)?;
+    let walked = walk::tally(tables, place, adapter, ring)?;
     let Some(w) = walked else {
         return receive_alone(received);
     };

@@ -15,14 +15,15 @@ use Rattle.tables.specs.Rows.{EntryRow, DeviceRow, Rows, entry_in}
 use Rattle.tables.specs.Packed.{entries_in}
 use Rattle.load.specs.Loading.{valid_entries}
 use Rattle.load.specs.Answers.{asked_device}
-use Rattle.fabric.specs.Tables.{rows_with}
 use Rattle.fabric.specs.Fabric.{Way, Way.on, Way.last, Way.dropped, leads}
 use Rattle.orbit.specs.Walk.{Walk, Spot, Spot.stand, Spot.ended, Spot.stopped, going, found, arrive, turned, made, onward, walk_n, hops_n, EndsAfter, Never}
 use Rattle.orbit.proofs.Orbit.{has, Ranked, table_ranked, hop_to_make, hop_at_lem, keys_apart, ends_length, ends_or_never, never_again, enough}
-use Rattle.walk.specs.Walking.{Stand, End, End.path, End.no_path, End.fault, turn_by, walk_on, path_of}
+use Rattle.walk.specs.Walking.{End, End.path, End.no_path, End.fault, turn_by, walk_on, path_of}
 use Rattle.walk.specs.Rule.{settled, walk_from, in_room, stand_of, walk_fault, PathRule, WalkRule}
-use Rattle.walk.specs.Tables.{rows_of}
 use Rattle.walk.proofs.Leading.{There, asked_there, leads_there, leads_fault, upstreams}
+use Rattle.tables.specs.declared.Stand.{Stand}
+use Rattle.tables.specs.declared.Tables.{Tables}
+use Rattle.tables.specs.Tables.{rows_of}
 
 -- ---- an entry tells where it stands
 
@@ -189,12 +190,12 @@ module _ (x : Rows) (s : Stand) (g : Sound x s) where
 
 -- ---- on tables
 
-pub sound : (en ad ro ma : List ℕ) (s : Stand) (d : DeviceRow) → asked_device (rows_of en ad ro ma) s.place ≡ value d → Sound (rows_of en ad ro ma) s
+pub sound : (tables : Tables) (s : Stand) (d : DeviceRow) → asked_device (rows_of tables) s.place ≡ value d → Sound (rows_of tables) s
 unfolding rows_of
-sound en ad ro ma s d q = record {
-  start = asked_there (rows_with (entries_in en) ad ro ma) s.place d q;
-  goes = leads_there (rows_with (entries_in en) ad ro ma) (upstreams (entries_in en) ad ro ma);
-  faults = leads_fault (rows_with (entries_in en) ad ro ma) (upstreams (entries_in en) ad ro ma);
+sound tables s d q = record {
+  start = asked_there (rows_of tables) s.place d q;
+  goes = leads_there (rows_of tables) (upstreams tables);
+  faults = leads_fault (rows_of tables) (upstreams tables);
 }
 
 -- ---- demand 3

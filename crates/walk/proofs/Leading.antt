@@ -18,9 +18,10 @@ use Rattle.tables.specs.Packed.{device_word, devices_from, upstream_by}
 use Rattle.load.specs.Answers.{present, asked_device}
 use Rattle.fabric.specs.Links.{is_upstream, route_or, upstream_route_of, downstream_route_of}
 use Rattle.fabric.specs.Fabric.{Way, Way.on, Way.last, Way.dropped, stand_by, stand_at, up_by, arrive_up, down_by, arrive_down, to_device, to_router, to_route, leads_from, leads_by, leads}
-use Rattle.fabric.specs.Tables.{rows_with}
 use Rattle.fabric.proofs.Laws.{device_below}
 use Rattle.walk.specs.Rule.{walk_fault}
+use Rattle.tables.specs.declared.Tables.{Tables}
+use Rattle.tables.specs.Tables.{rows_of}
 
 -- a device stands at the place
 abbrev pub There : Rows → ℕ → Type 0
@@ -154,10 +155,10 @@ upstreams_from p (r ∷ rs) [] q e h = absurd (none-some e h)
 upstreams_from p (r ∷ rs) (m ∷ ms) zero e h = let z : device_word p r m ≡ e = cc in subst (λ (d : DeviceRow). Faulty d.upstream) z (upstream_word _ _)
 upstreams_from p (r ∷ rs) (m ∷ ms) (suc q) e h = upstreams_from (suc p) rs ms q e h
 
-pub upstreams : (es : List EntryRow) (ad ro ma : List ℕ) → Upstreams (rows_with es ad ro ma)
-unfolding rows_with
-upstreams es ad ro ma = upstreams_from 0 ro ma
+pub upstreams : (tables : Tables) → Upstreams (rows_of tables)
+unfolding rows_of
+upstreams tables = upstreams_from 0 tables.routes.now tables.marks.now
 
-pub there_below : (es : List EntryRow) (ad ro ma : List ℕ) (q : ℕ) → There (rows_with es ad ro ma) q → q < length ro
-unfolding rows_with
-there_below es ad ro ma q (d, e) = device_below ro ma q d e
+pub there_below : (tables : Tables) (q : ℕ) → There (rows_of tables) q → q < length tables.routes.now
+unfolding rows_of
+there_below tables q (d, e) = device_below tables.routes.now tables.marks.now q d e

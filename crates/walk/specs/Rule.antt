@@ -4,7 +4,8 @@ use Rattle.refusal.specs.Outcome.{Outcome, refused, value, bind}
 use Rattle.tables.specs.Rows.{EntryRow, Rows}
 use Rattle.orbit.specs.Walk.{Spot, Spot.stand, Spot.ended, Spot.stopped, walk_n, hops_n, EndsAfter, Never, Again}
 use Rattle.load.specs.Loading.{valid_entries}
-use Rattle.walk.specs.Walking.{Stand, End, End.path, End.no_path, End.fault, walk_on, path_of}
+use Rattle.walk.specs.Walking.{End, End.path, End.no_path, End.fault, walk_on, path_of}
+use Rattle.tables.specs.declared.Stand.{Stand}
 
 -- what the hops so far and where the walk is come to; 13 where there is still a hop to make
 unfoldable pub settled : List EntryRow → Spot Stand End → Outcome (Option (List EntryRow))

@@ -6,22 +6,13 @@ use Rattle.tables.specs.Packed.{entries_in, entry_unit, adapter_unit, Sorted}
 use Rattle.tables.specs.Found.{EntrySought}
 use Rattle.load.specs.Answers.{asked_device}
 use Rattle.refusal.specs.Refusal.{refused_by}
-use Rattle.fabric.specs.Tables.{rows_with}
-use Rattle.walk.specs.Walking.{Stand}
 use Rattle.walk.specs.Rule.{walk_from, WalkRule}
 use Rattle.adapter.specs.Paths.{entry_out}
 use Rattle.walk.specs.declared.Walked.{Walked}
 use Rattle.refusal.specs.declared.Refusal.{Refusal}
-
--- the rows that tables hold
-unfoldable pub rows_of : List ℕ → List ℕ → List ℕ → List ℕ → Rows
-rows_of en ad ro ma = rows_with (entries_in en) ad ro ma
-
--- tables in order: keys don't fall, and there are no more devices than a key has room for
-pub record Tabled (en ad ro : List ℕ) : Type 0 where
-  pub entry_order : Sorted entry_unit en
-  pub adapter_order : Sorted adapter_unit ad
-  pub devices : length ro ≤ 65536
+use Rattle.tables.specs.declared.Stand.{Stand}
+use Rattle.tables.specs.declared.Tables.{Tables}
+use Rattle.tables.specs.Tables.{Tabled, rows_of}
 
 -- a path's number of hops, and by what it leaves: its last hop's place, out adapter and out HopID
 pub record Leaving : Type 0 where
@@ -76,17 +67,17 @@ unfoldable pub no_need : List EntryRow → ℕ
 no_need hs = 0
 
 -- In tables in order it is how the walk ends. In any others it is free, but that a path has a hop, and no more than there are entries.
-pub record Tallied (en ad ro ma : List ℕ) (s : Stand) (r : Result (Option Walked) Refusal) : Type 0 where
-  pub answers : Tabled en ad ro → s.place < 65536 → tally_outcome r ≡ bind (walk_from (rows_of en ad ro ma) s) (λ o. value (leaves o))
+pub record Tallied (tables : Tables) (s : Stand) (r : Result (Option Walked) Refusal) : Type 0 where
+  pub answers : Tabled tables → s.place < 65536 → tally_outcome r ≡ bind (walk_from (rows_of tables) s) (λ o. value (leaves o))
   pub past : 65535 < s.place → r ≡ (Ok None)
-  pub few : hops_by r ≤ length en
+  pub few : hops_by r ≤ length tables.entries.now
   pub one : is_path r ≡ ltb 0 (hops_by r)
   -- every start at a device that is there
-  pub walks : Tabled en ad ro → (d : DeviceRow) → asked_device (rows_of en ad ro ma) s.place ≡ value d
-      → WalkRule (rows_of en ad ro ma) s no_need 0 (λ hs. tally_outcome r ≡ value (leaving_of hs)) (hops_outcome r)
+  pub walks : Tabled tables → (d : DeviceRow) → asked_device (rows_of tables) s.place ≡ value d
+      → WalkRule (rows_of tables) s no_need 0 (λ hs. tally_outcome r ≡ value (leaving_of hs)) (hops_outcome r)
 
 -- How each walk ends that starts at the device at place p and finds there an entry with this out adapter and out HopID. Where no walk finds such an entry it is free, but that a path has a hop, and no more than there are entries.
-pub record Onward (en ad ro ma : List ℕ) (p out hop : ℕ) (r : Result (Option Walked) Refusal) : Type 0 where
-  pub ends : (a h : ℕ) → EntrySought en p a h (Some (entry_out out hop)) → Tallied en ad ro ma (record { place = p; adapter = a; hop_id = h }) r
-  pub few : hops_by r ≤ length en
+pub record Onward (tables : Tables) (p out hop : ℕ) (r : Result (Option Walked) Refusal) : Type 0 where
+  pub ends : (a h : ℕ) → EntrySought tables.entries.now p a h (Some (entry_out out hop)) → Tallied tables (record { place = p; adapter = a; hop_id = h }) r
+  pub few : hops_by r ≤ length tables.entries.now
   pub one : is_path r ≡ ltb 0 (hops_by r)

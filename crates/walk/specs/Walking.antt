@@ -4,12 +4,7 @@ use Rattle.refusal.specs.Outcome.{Outcome, refused, value}
 use Rattle.tables.specs.Rows.{EntryRow, Rows, entry_in}
 use Rattle.orbit.specs.Walk.{Turn, Turn.on as goes_on, Turn.ends as comes-to, Walk}
 use Rattle.fabric.specs.Fabric.{Way, Way.on, Way.last, Way.dropped, leads}
-
--- where a walk stands
-pub record Stand : Type 0 where
-  pub place : ℕ
-  pub adapter : ℕ
-  pub hop_id : ℕ
+use Rattle.tables.specs.declared.Stand.{Stand}
 
 -- how a hop ends a walk: a path, this hop last; no path at all; or a refusal
 pub data End : Type 0 where

@@ -17,15 +17,12 @@ pub struct Walked {
 
 // How a walk ends whose first hop leaves the device at a place by an out adapter and HopID. A walk that is still going after as many hops as there are entries never ends.
 pub fn onward(
-    entries: &[u64],
-    adapters: &[u64],
-    routes: &[u64],
-    marks: &[u64],
+    tables: &Tables,
     place: usize,
     out_adapter: u8,
     out_hop: u16,
 ) -> Result<Option<Walked>, Refusal>
-    ensures { Onward entries.now adapters.now routes.now marks.now place out_adapter out_hop result }
+    ensures { Onward tables.now place out_adapter out_hop result }
 {
     let mut left = entries.len();
     let mut hops: usize = 0;
@@ -38,7 +35,7 @@ pub fn onward(
         }
         left -= 1;
         hops += 1;
-        let next = fabric::leads(adapters, routes, marks, p, out)?;
+        let next = fabric::leads(tables, p, out)?;
         match next {
             Next::On {
                 place: q,
@@ -73,21 +70,15 @@ pub fn onward(
 
 // As `onward`. A function copies the slices that it hands on as it begins: this one does, so that a walk without a hop copies none.
 fn go_on(
-    entries: &[u64],
-    adapters: &[u64],
-    routes: &[u64],
-    marks: &[u64],
+    tables: &Tables,
     place: usize,
     out_adapter: u8,
     out_hop: u16,
 ) -> Result<Option<Walked>, Refusal>
-    ensures { Onward entries.now adapters.now routes.now marks.now place out_adapter out_hop result }
+    ensures { Onward tables.now place out_adapter out_hop result }
 {
     onward(
-        entries,
-        adapters,
-        routes,
-        marks,
+        tables,
         place,
         out_adapter,
         out_hop,
@@ -96,24 +87,18 @@ fn go_on(
 
 // How the walk from an adapter and HopID of the device at a place ends. The first entry is looked for before the loop, so that a walk without one ends soon.
 pub fn tally(
-    entries: &[u64],
-    adapters: &[u64],
-    routes: &[u64],
-    marks: &[u64],
+    tables: &Tables,
     place: usize,
     adapter: u8,
     hop: u16,
 ) -> Result<Option<Walked>, Refusal>
-    ensures { Tallied entries.now adapters.now routes.now marks.now (record { place = place; adapter = adapter; hop_id = hop }) result }
+    ensures { Tallied tables.now (record { place = place; adapter = adapter; hop_id = hop }) result }
 {
     let Some(entry) = search::find_entry(entries, place, adapter, hop) else {
         return Ok(None);
     };
     go_on(
-        entries,
-        adapters,
-        routes,
-        marks,
+        tables,
         place,
         entry.out_adapter,
         entry.out_hop,

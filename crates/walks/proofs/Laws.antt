@@ -20,15 +20,15 @@ use Rattle.load.specs.declared.Loaded.{Loaded}
 use Rattle.load.proofs.Result.{tables_in, load_tables}
 use Rattle.refusal.proofs.Laws.{refused_bind}
 use Rattle.devices.proofs.Laws.{Held, asked}
-use Rattle.walk.specs.Walking.{Stand}
 use Rattle.walk.specs.Rule.{walk_from, in_room, WalkRule}
-use Rattle.fabric.specs.Tables.{rows_with}
-use Rattle.walk.specs.Tables.{rows_of, Tabled}
 use Rattle.path.specs.Words.{words_needed, with_path, output_by}
-use Rattle.path.specs.Put.{Put, Sized}
+use Rattle.path.specs.Put.{Put}
 use Rattle.walks.specs.Calls.{single, path_answer, walk_answer, WalkDone}
 use Rattle.refusal.specs.Refusal.{outcome}
 use Rattle.load.specs.Answers.{counted}
+use Rattle.tables.specs.declared.Stand.{Stand}
+use Rattle.tables.specs.declared.Tables.{Tables}
+use Rattle.tables.specs.Tables.{Sized, Tabled, rows_of}
 
 -- ---- a refusal is no value
 
@@ -86,13 +86,13 @@ module _ (t v : List ℕ) (s : Stand) (out : List ℕ) where
       within x y l a = ap (λ (o : Outcome Rows). bind o (λ z. asked_adapter z s.place s.adapter)) l ∙ a
 
   -- the start is there
-  module _ (en ad ro ma : List ℕ) (d : DeviceRow) (y : AdapterRow) (l : loaded t v ≡ value (rows_of en ad ro ma)) (h : asked_device (rows_of en ad ro ma) s.place ≡ value d)
-      (a : asked_adapter (rows_of en ad ro ma) s.place s.adapter ≡ value y) where
-    path_answer_lem : path_answer t v s ≡ walk_from (rows_of en ad ro ma) s
+  module _ (tables : Tables) (d : DeviceRow) (y : AdapterRow) (l : loaded t v ≡ value (rows_of tables)) (h : asked_device (rows_of tables) s.place ≡ value d)
+      (a : asked_adapter (rows_of tables) s.place s.adapter ≡ value y) where
+    path_answer_lem : path_answer t v s ≡ walk_from (rows_of tables) s
     unfolding path_answer bind
-    path_answer_lem = ap (λ (o : Outcome Rows). bind o (λ x. bind (asked_adapter x s.place s.adapter) (λ z. walk_from x s))) l ∙ ap (λ (o : Outcome AdapterRow). bind o (λ z. walk_from (rows_of en ad ro ma) s)) a
+    path_answer_lem = ap (λ (o : Outcome Rows). bind o (λ x. bind (asked_adapter x s.place s.adapter) (λ z. walk_from x s))) l ∙ ap (λ (o : Outcome AdapterRow). bind o (λ z. walk_from (rows_of tables) s)) a
 
-    pub put_done : Sized en ro → Tabled en ad ro → s.place < 65536 → (r : Result (Option ℕ) Refusal) (out' : List ℕ) → Put en ad ro ma s single out r out' → WalkDone t v s out r out'
+    pub put_done : Sized tables → Tabled tables → s.place < 65536 → (r : Result (Option ℕ) Refusal) (out' : List ℕ) → Put tables s single out r out' → WalkDone t v s out r out'
     unfolding walk_answer
     put_done z k f r out' w = record {
       answers = w.answers z k f ∙ sym (ap (λ (o : Outcome (Option (List EntryRow))). bind o (in_room (words_needed single) (length out))) path_answer_lem);
@@ -105,7 +105,7 @@ module _ (t v : List ℕ) (s : Stand) (out : List ℕ) where
 
 module _ (l : Loaded) (t v : List ℕ) (e a d : ℕ) (same : loaded_rows l ≡ loaded t v) (g : l.answer ≡ counted e a d) where
   pub rows_loaded : loaded t v ≡ value (rows_of (take e l.entries) (take a l.adapters) (take d l.routes) (take d l.marks))
-  unfolding rows_of rows_with bind
+  unfolding rows_of bind
   rows_loaded = go (loaded t v) (load_tables l t v same value e a d g)
     where
       go : (o : Outcome Rows) → value (tables_in l e a d) ≡ bind o value → o ≡ value (tables_in l e a d)
@@ -122,13 +122,13 @@ module _ (l : Loaded) (t v : List ℕ) (e a d : ℕ) (same : loaded_rows l ≡ l
   unfolding asked_adapter present bind
   no_adapter p n z f h = ap present h ∙ asked l t v e a d p (λ x w. present (adapter_in x.adapters p n)) (Some z) same g f
 
-pub asked_device_lem : (en ad ro ma : List ℕ) (p : ℕ) (z : DeviceRow) → Some z ≡ device_in (devices_in ro ma) p → asked_device (rows_of en ad ro ma) p ≡ value z
-unfolding asked_device present rows_of rows_with
-asked_device_lem en ad ro ma p z f = sym (ap present f)
+pub asked_device_lem : (tables : Tables) (p : ℕ) (z : DeviceRow) → Some z ≡ device_in (devices_in tables.routes.now tables.marks.now) p → asked_device (rows_of tables) p ≡ value z
+unfolding asked_device present rows_of
+asked_device_lem tables p z f = sym (ap present f)
 
-pub asked_adapter_lem : (en ad ro ma : List ℕ) (p n : ℕ) (z : DeviceRow) (y : AdapterRow) → Some z ≡ device_in (devices_in ro ma) p → Some y ≡ adapter_in (adapters_in ad) p n → asked_adapter (rows_of en ad ro ma) p n ≡ value y
-unfolding asked_adapter present rows_of rows_with bind
-asked_adapter_lem en ad ro ma p n z y f h = ap (λ (o : Outcome DeviceRow). bind o (λ w. present (adapter_in (adapters_in ad) p n))) (asked_device_lem en ad ro ma p z f) ∙ sym (ap present h)
+pub asked_adapter_lem : (tables : Tables) (p n : ℕ) (z : DeviceRow) (y : AdapterRow) → Some z ≡ device_in (devices_in tables.routes.now tables.marks.now) p → Some y ≡ adapter_in (adapters_in tables.adapters.now) p n → asked_adapter (rows_of tables) p n ≡ value y
+unfolding asked_adapter present rows_of bind
+asked_adapter_lem tables p n z y f h = ap (λ (o : Outcome DeviceRow). bind o (λ w. present (adapter_in (adapters_in tables.adapters.now) p n))) (asked_device_lem tables p z f) ∙ sym (ap present h)
 
 pub sized : (l : Loaded) (e a d : ℕ) → Usable l e a d → Held l e a d → Sized (take e l.entries) (take d l.routes)
 sized l e a d u h = record {

@@ -5,12 +5,12 @@ use Rattle.adapter.specs.Adapter.{AdapterRow}
 use Rattle.tables.specs.Rows.{EntryRow, Rows}
 use Rattle.load.specs.Loading.{loaded}
 use Rattle.load.specs.Answers.{asked_adapter}
-use Rattle.walk.specs.Walking.{Stand}
 use Rattle.walk.specs.Rule.{walk_from, in_room, WalkRule}
 use Rattle.path.specs.Words.{words_needed, with_path, output_by}
 use Rattle.path.specs.Put.{is_path}
 use Rattle.refusal.specs.Refusal.{outcome}
 use Rattle.refusal.specs.declared.Refusal.{Refusal}
+use Rattle.tables.specs.declared.Stand.{Stand}
 
 -- the name of a single walk's path
 abbrev pub single : ℕ

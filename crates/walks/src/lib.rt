@@ -1,7 +1,6 @@
 // The call for a single walk on a survey.
 #![tactic(auto)]
 
-ghost use Rattle.walk.specs.Walking.{Stand};
 ghost use Rattle.walks.specs.Calls.{WalkDone};
 
 use refusal::Refusal;

@@ -40,4 +40,4 @@ returns-in_err-counts c =
 
 pub returns : goal.returns
 returns c = let u = usable _ _ _ _ c.in_ok-counts.was c.load-loaded.ensures.usable in let w = held _ _ _ _ _ c.load-loaded.type_inv c.in_ok-counts.was c.load-loaded.ensures.usable in
-    laws.done _ _ _ _ _ _ _ _ _ (rows_loaded _ _ _ _ _ _ c.load-loaded.ensures.answer c.in_ok-counts.was) (sized _ _ _ _ u w) (tabled _ _ _ _ u w) _ _ c.discover_in.ensures
+    laws.done _ _ _ _ _ _ (rows_loaded _ _ _ _ _ _ c.load-loaded.ensures.answer c.in_ok-counts.was) (sized _ _ _ _ u w) (tabled _ _ _ _ u w) _ _ c.discover_in.ensures

@@ -8,6 +8,6 @@ put_noted-requires t c =
     let long = notes_long c.receive-searched.result _ c.receive-searched.type_inv in (
       c.requires.0,
       c.requires.1,
-      told_known _ _ _ _ _ _ _ _ _ c.receive-searched.ensures _ c.known_notes-count.ensures (omega (arith, c.if-count-gt63.false, long)) (λ l. omega (arith, c.if-count-gt63.false)),
+      told_known _ _ _ _ _ _ c.receive-searched.ensures _ c.known_notes-count.ensures (omega (arith, c.if-count-gt63.false, long)) (λ l. omega (arith, c.if-count-gt63.false)),
       c.receive-searched.ensures.comes,
     )

@@ -6,7 +6,7 @@ use mathlib.Core.Path.{ap}
 use Rattle.discovery.proofs.at_rest.Goals as goal
 
 pub returns-then-not-is_quiet : goal.returns-then-not-is_quiet
-returns-then-not-is_quiet c = λ ad ro ma f. idle_start _ ad ro ma _ _ 2048
+returns-then-not-is_quiet c = λ tables f. idle_start _ tables _ _ 2048
 
 pub returns : goal.returns
-returns c = λ ad ro ma f. all_rest _ ad ro ma _ _ _ (c.is_quiet.ensures ad ro ma f (not-false c.is_quiet.result (ap (λ b. not b) c.if-not-is_quiet.false))) c.unmark_all.ensures
+returns c = λ tables f. all_rest _ tables _ _ _ (c.is_quiet.ensures tables f (not-false c.is_quiet.result (ap (λ b. not b) c.if-not-is_quiet.false))) c.unmark_all.ensures

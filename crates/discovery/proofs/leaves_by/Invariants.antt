@@ -5,7 +5,7 @@ use Rattle.discovery.specs.Work.{among, out_hops}
 use Rattle.discovery.proofs.leaves_by.Given as goal
 
 abbrev pub invariant-loop-i : goal.invariant-loop-i
-invariant-loop-i l = among l.hop (out_hops l.entries) ≡ among l.hop (out_hops (drop l.i l.entries))
+invariant-loop-i l = among l.hop (out_hops l.tables.entries.now) ≡ among l.hop (out_hops (drop l.i l.tables.entries.now))
 
 abbrev pub decreases-loop-i : goal.decreases-loop-i
-decreases-loop-i l = length l.entries - l.i
+decreases-loop-i l = length l.tables.entries.now - l.i

@@ -3,7 +3,7 @@ use Rattle.discovery.proofs.Rings.{Putting}
 use Rattle.discovery.proofs.put_rings.Given as goal
 
 abbrev pub invariant-loop-ring : goal.invariant-loop-ring
-invariant-loop-ring l = Putting l.entries l.adapters l.routes l.marks l.place l.adapter l.end l.initial.output l.at l.ring l.output
+invariant-loop-ring l = Putting l.tables l.place l.adapter l.end l.initial.output l.at l.ring l.output
 
 abbrev pub decreases-loop-ring : goal.decreases-loop-ring
 decreases-loop-ring l = l.end - l.ring

@@ -11,4 +11,4 @@ pub copy-requires : goal.copy-requires
 copy-requires c = length-take-le _ _ c.if-need-draft.true
 
 pub returns-then-need-draft : goal.returns-then-need-draft
-returns-then-need-draft c = drafted_put _ _ _ _ _ _ _ _ _ c.requires.3 c.if-need-draft.true _ c.copy.ensures
+returns-then-need-draft c = drafted_put _ _ _ _ _ _ c.requires.3 c.if-need-draft.true _ c.copy.ensures

@@ -6,7 +6,7 @@ pub returns-then-notes-ge-UNTOLD : goal.returns-then-notes-ge-UNTOLD
 returns-then-notes-ge-UNTOLD c = c.receive-searched.ensures.comes
 
 pub returns-then-notes-i : goal.returns-then-notes-i
-returns-then-notes-i c = told_last _ _ _ _ _ _ _ c.requires (omega (arith, c.if-notes-ge-UNTOLD.false)) _ c.find_note-i.ensures c.if-notes-i.true
+returns-then-notes-i c = told_last _ _ _ _ c.requires (omega (arith, c.if-notes-ge-UNTOLD.false)) _ c.find_note-i.ensures c.if-notes-i.true
 
 pub returns : goal.returns
-returns c = told_path _ _ _ _ _ _ _ c.requires (omega (arith, c.if-notes-ge-UNTOLD.false)) _ c.find_note-i.ensures c.if-notes-i.false _ (c.noted_path.ensures _)
+returns c = told_path _ _ _ _ c.requires (omega (arith, c.if-notes-ge-UNTOLD.false)) _ c.find_note-i.ensures c.if-notes-i.false _ (c.noted_path.ensures _)

@@ -50,7 +50,7 @@ pub returns-in_err-d : goal.returns-in_err-d
 unfolding parent_answer present bind device_found
 returns-in_err-d c = let p = err_from_is_err_and c.from_residual-in_err-d.result c.from_residual-in_err-d.ensures.1 in
     let m = missing _ _ c.ok_or.ensures.value _ c.in_err-d.was in
-    rw (p.1, p.2, m.1) (asked _ _ _ _ _ _ _ (λ x d. parent_of x c.args.place d) None c.load-loaded.ensures.answer c.in_ok-counts.was (sym (ap (device_found _) m.0) ∙ c.find_device-found.ensures))
+    rw (p.1, p.2, m.1) (asked _ _ _ _ (λ x d. parent_of x c.args.place d) None c.load-loaded.ensures.answer c.in_ok-counts.was (sym (ap (device_found _) m.0) ∙ c.find_device-found.ensures))
 
 pub returns : goal.returns
 unfolding device_found

@@ -5,12 +5,12 @@ use Rattle.parents.proofs.parent_of.Goals as goal
 
 pub returns-then-number-eq1 : goal.returns-then-number-eq1
 unfolding device_row
-returns-then-number-eq1 c = record { is = λ k l es. c.router_parent.ensures.is k l es ∙ of_router _ _ _ _ c.kind_number-number.ensures c.if-number-eq1.true }
+returns-then-number-eq1 c = record { is = λ k l. c.router_parent.ensures.is k l ∙ of_router _ _ _ _ c.kind_number-number.ensures c.if-number-eq1.true }
 
 pub returns-then-number-eq2 : goal.returns-then-number-eq2
 unfolding device_row
-returns-then-number-eq2 c = record { is = λ k l es. c.xdomain_parent.ensures c.args.adapters.now es ∙ of_xdomain _ _ _ _ c.kind_number-number.ensures c.if-number-eq2.true }
+returns-then-number-eq2 c = record { is = λ k l. c.xdomain_parent.ensures c.args.tables.now.adapters.now es ∙ of_xdomain _ _ _ _ c.kind_number-number.ensures c.if-number-eq2.true }
 
 pub returns : goal.returns
 unfolding device_row
-returns c = record { is = λ k l es. of_other _ _ _ _ c.kind_number-number.ensures c.if-number-eq1.false c.if-number-eq2.false }
+returns c = record { is = λ k l. of_other _ _ _ _ c.kind_number-number.ensures c.if-number-eq1.false c.if-number-eq2.false }

@@ -10,13 +10,13 @@ use Rattle.path.proofs.Writing.{stood, kept_start, kept_full, kept_missing, kept
 use Rattle.path.proofs.put_hops.Goals as goal
 
 pub loop-i-init : goal.loop-i-init
-loop-i-init c = kept_start _ _ _ _ (stood c.args.place c.args.adapter c.args.hop) _ (omega (arith, c.ranges)) c.requires
+loop-i-init c = kept_start _ (stood c.args.place c.args.adapter c.args.hop) _ (omega (arith, c.ranges)) c.requires
 
 pub shape_of-output-in_default : goal.shape_of-output-in_default
 shape_of-output-in_default c = c.loop-i.invariant.long
 
 pub returns-in_default : goal.returns-in_default
-returns-in_default c = kept_missing _ _ _ _ _ _ _ _ _ _ _ c.loop-i.invariant c.loop-i-test.true _ c.find_entry.ensures c.in_default.is
+returns-in_default c = kept_missing _ _ _ _ _ _ _ _ c.loop-i.invariant c.loop-i-test.true _ c.find_entry.ensures c.in_default.is
 
 pub bounds-output-i : goal.bounds-output-i
 bounds-output-i c = omega (arith, c.loop-i.invariant.long, c.loop-i-test.true)
@@ -40,16 +40,16 @@ pub shape_of-output-in_default-next : goal.shape_of-output-in_default-next
 shape_of-output-in_default-next c = length-set (set c.loop-i.output (1 + 2 * c.loop-i.i) c.hop_word.result) (2 + 2 * c.loop-i.i) _ ∙ length-set c.loop-i.output (1 + 2 * c.loop-i.i) _ ∙ c.loop-i.invariant.long
 
 pub returns-in_default-leads : goal.returns-in_default-leads
-returns-in_default-leads c = kept_last _ _ _ _ _ _ _ _ _ _ _ c.loop-i.invariant c.loop-i-test.true _ c.find_entry.ensures _ _ _ _ c.in-Some.is c.hop_word.ensures refl _ c.leads.ensures (λ q b e. err_no_ok _ _ (sym c.in_default-leads.is ∙ e))
+returns-in_default-leads c = kept_last _ _ _ _ _ _ _ _ c.loop-i.invariant c.loop-i-test.true _ c.find_entry.ensures _ _ _ _ c.in-Some.is c.hop_word.ensures refl _ c.leads.ensures (λ q b e. err_no_ok _ _ (sym c.in_default-leads.is ∙ e))
 
 pub returns-in_default-next : goal.returns-in_default-next
-returns-in_default-next c = kept_last _ _ _ _ _ _ _ _ _ _ _ c.loop-i.invariant c.loop-i-test.true _ c.find_entry.ensures _ _ _ _ c.in-Some.is c.hop_word.ensures refl _ c.leads.ensures (λ q b e. c.in_default-next.not-On q b (ok_same _ _ (sym c.in-Ok.is ∙ e)))
+returns-in_default-next c = kept_last _ _ _ _ _ _ _ _ c.loop-i.invariant c.loop-i-test.true _ c.find_entry.ensures _ _ _ _ c.in-Some.is c.hop_word.ensures refl _ c.leads.ensures (λ q b e. c.in_default-next.not-On q b (ok_same _ _ (sym c.in-Ok.is ∙ e)))
 
 pub loop-i-preserved : goal.loop-i-preserved
-loop-i-preserved c = kept_on _ _ _ _ _ _ _ _ _ _ _ c.loop-i.invariant c.loop-i-test.true _ c.find_entry.ensures _ _ _ _ c.in-Some.is c.hop_word.ensures refl _ c.leads.ensures _ _ (omega arith) (c.in-Ok.is ∙ ap Ok c.in-On.is)
+loop-i-preserved c = kept_on _ _ _ _ _ _ _ _ c.loop-i.invariant c.loop-i-test.true _ c.find_entry.ensures _ _ _ _ c.in-Some.is c.hop_word.ensures refl _ c.leads.ensures _ _ (omega arith) (c.in-Ok.is ∙ ap Ok c.in-On.is)
 
 pub shape_of-output : goal.shape_of-output
 shape_of-output c = c.loop-i.invariant.long
 
 pub returns : goal.returns
-returns c = kept_full _ _ _ _ _ _ _ _ _ _ _ c.loop-i.invariant c.loop-i-test.false
+returns c = kept_full _ _ _ _ _ _ _ _ c.loop-i.invariant c.loop-i-test.false

@@ -13,23 +13,23 @@ pub try_used-requires : goal.try_used-requires
 try_used-requires c =
     let a = c.args in
     let n = c.in_ok-counts.counts in
-    let all : Loaded = record { answer = a.told; entries = a.entries.now; adapters = a.adapters.now; routes = a.routes.now; marks = a.marks.now } in
+    let all : Loaded = record { answer = a.told; entries = a.tables.now.entries.now; adapters = a.tables.now.adapters.now; routes = a.tables.now.routes.now; marks = a.tables.now.marks.now } in
     let ready : Usable all n.entries n.adapters n.devices = usable all _ _ _ c.in_ok-counts.was c.requires in
-    let held : Held all n.entries n.adapters n.devices = within all _ _ _ ready (omega arith) (omega arith) (omega arith) (omega arith) in
+    let held : Held all n.entries n.adapters n.devices = within all ready (omega arith) (omega arith) (omega arith) (omega arith) in
     (held.entries, held.adapters, held.routes, held.marks)
 
 pub returns-in_err-counts : goal.returns-in_err-counts
 unfolding OpensFrom
 returns-in_err-counts c = λ t s our same.
     let p = err_from_is_err_and c.from_residual.result c.from_residual.ensures.1 in
-    rw (p.1, p.2) (not_loaded _ t s our same _ c.in_err-counts.was _ _ _ _)
+    rw (p.1, p.2) (not_loaded _ t s our same _ c.in_err-counts.was _)
 
 pub returns : goal.returns
 unfolding OpensFrom
 returns c = λ t s our same.
     let a = c.args in
     let n = c.in_ok-counts.counts in
-    let all : Loaded = record { answer = a.told; entries = a.entries.now; adapters = a.adapters.now; routes = a.routes.now; marks = a.marks.now } in
+    let all : Loaded = record { answer = a.told; entries = a.tables.now.entries.now; adapters = a.tables.now.adapters.now; routes = a.tables.now.routes.now; marks = a.tables.now.marks.now } in
     let ready : Usable all n.entries n.adapters n.devices = usable all _ _ _ c.in_ok-counts.was c.requires in
-    let held : Held all n.entries n.adapters n.devices = within all _ _ _ ready (omega arith) (omega arith) (omega arith) (omega arith) in
+    let held : Held all n.entries n.adapters n.devices = within all ready (omega arith) (omega arith) (omega arith) (omega arith) in
     tried_all all t s our same _ _ _ c.in_ok-counts.was ready held _ c.try_used.ensures

@@ -5,13 +5,13 @@ use Rattle.receive.proofs.Search.{Seeking, Among}
 use Rattle.receive.proofs.seek_path.Given as goal
 
 abbrev pub invariant-loop-hop : goal.invariant-loop-hop
-invariant-loop-hop l = Among l.entries l.adapters l.routes l.marks l.ring l.i l.place l.adapter l.hop l.most l.noted l.notes × (length l.notes ≡ length l.initial.notes)
+invariant-loop-hop l = Among l.tables l.ring l.i l.place l.adapter l.hop l.most l.noted l.notes × (length l.notes ≡ length l.initial.notes)
 
 abbrev pub decreases-loop-hop : goal.decreases-loop-hop
 decreases-loop-hop l = 65536 - l.hop
 
 abbrev pub invariant-loop-i : goal.invariant-loop-i
-invariant-loop-i l = Seeking l.entries l.adapters l.routes l.marks l.ring l.i l.noted l.notes × (length l.notes ≡ length l.initial.notes)
+invariant-loop-i l = Seeking l.tables l.ring l.i l.noted l.notes × (length l.notes ≡ length l.initial.notes)
 
 abbrev pub decreases-loop-i : goal.decreases-loop-i
-decreases-loop-i l = length l.routes - l.i
+decreases-loop-i l = length l.tables.routes.now - l.i

@@ -5,15 +5,15 @@ use Rattle.std.specs.Prelude.{Some}
 use mathlib.Core.Path.{ap, ◌∙◌}
 use Rattle.routers.proofs.find_device.Goals as goal
 
-pub returns-then-routes-place : goal.returns-then-routes-place
+pub returns-then-tables-place : goal.returns-then-tables-place
 unfolding device_found
-returns-then-routes-place c = device_past_routes 0 c.args.routes.now c.args.marks.now c.args.place c.if-routes-place.true
+returns-then-tables-place c = let t = c.args.tables.now in device_past_routes 0 t.routes.now t.marks.now c.args.place c.if-tables-place.true
 
-pub returns-then-marks-place : goal.returns-then-marks-place
+pub returns-then-tables-place-2 : goal.returns-then-tables-place-2
 unfolding device_found
-returns-then-marks-place c = device_past_marks 0 c.args.routes.now c.args.marks.now c.args.place c.if-marks-place.true
+returns-then-tables-place-2 c = let t = c.args.tables.now in device_past_marks 0 t.routes.now t.marks.now c.args.place c.if-tables-place-2.true
 
 pub returns : goal.returns
 unfolding device_found
-returns c = let a = c.args in
-    ap Some (c.device_of.ensures a.place) ∙ device_at_lem 0 a.place a.routes.now a.marks.now a.place (omega arith) c.if-routes-place.false c.if-marks-place.false
+returns c = let t = c.args.tables.now in let p = c.args.place in
+    ap Some (c.device_of.ensures p) ∙ device_at_lem 0 p t.routes.now t.marks.now p (omega arith) (omega (arith, c.if-tables-place.false)) (omega (arith, c.if-tables-place-2.false))

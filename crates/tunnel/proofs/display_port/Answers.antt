@@ -7,10 +7,10 @@ use Rattle.tunnel.proofs.display_port.Goals as goal
 pub returns-in_err-walked : goal.returns-in_err-walked
 returns-in_err-walked c =
     let p = err_from_is_err_and c.from_residual.result c.from_residual.ensures.1 in
-    rw (p.1, p.2) (video_refused _ _ _ _ _ _ _ c.tally.ensures _ c.in_err-walked.was)
+    rw (p.1, p.2) (video_refused _ _ _ _ c.tally.ensures _ c.in_err-walked.was)
 
 pub returns-in_default : goal.returns-in_default
-returns-in_default c = video_absent _ _ _ _ _ _ _ c.tally.ensures (c.in_ok-walked.was ∙ ap Ok c.in_default.is)
+returns-in_default c = video_absent _ _ _ _ c.tally.ensures (c.in_ok-walked.was ∙ ap Ok c.in_default.is)
 
 pub returns : goal.returns
-returns c = video_path _ _ _ _ _ _ _ c.tally.ensures _ _ _ _ _ _ (c.in_ok-walked.was ∙ ap Ok c.in-Some.is) c.path_words.ensures c.aux.ensures
+returns c = video_path _ _ _ _ c.tally.ensures _ _ _ _ _ _ (c.in_ok-walked.was ∙ ap Ok c.in-Some.is) c.path_words.ensures c.aux.ensures

@@ -10,15 +10,15 @@ pub returns-in_err-found : goal.returns-in_err-found
 unfolding words_by paths_by
 returns-in_err-found c =
     let p = err_from_is_err_and c.from_residual.result c.from_residual.ensures.1 in
-    rw (p.1, p.2) (λ en ad ro ma ring f. ring_refused en ad ro ma ring _ f _ _ c.in_err-found.was, omega arith, omega arith)
+    rw (p.1, p.2) (λ tables ring f. ring_refused tables ring _ f _ _ c.in_err-found.was, omega arith, omega arith)
 
 pub returns-in-Lost : goal.returns-in-Lost
 unfolding words_by paths_by
-returns-in-Lost c = (λ en ad ro ma ring f. alone_lost en ad ro ma ring _ f (c.in_ok-found.was ∙ ap Ok c.in-Lost.is), omega arith, omega arith)
+returns-in-Lost c = (λ tables ring f. alone_lost tables ring _ f (c.in_ok-found.was ∙ ap Ok c.in-Lost.is), omega arith, omega arith)
 
 pub returns-in-Nothing : goal.returns-in-Nothing
 unfolding words_by paths_by
-returns-in-Nothing c = (λ en ad ro ma ring f. alone_nothing en ad ro ma ring _ f (c.in_ok-found.was ∙ ap Ok c.in-Nothing.is), omega arith, omega arith)
+returns-in-Nothing c = (λ tables ring f. alone_nothing tables ring _ f (c.in_ok-found.was ∙ ap Ok c.in-Nothing.is), omega arith, omega arith)
 
 pub returns-in-Path : goal.returns-in-Path
-returns-in-Path c = let b = one_bounds _ _ _ c.one_path-plan.ensures (omega (arith, c.path_words.ensures.0)) in (λ en ad ro ma ring f. alone_path en ad ro ma ring _ f _ _ _ _ _ _ _ _ (c.in_ok-found.was ∙ ap Ok c.in-Path.is) c.path_words.ensures c.one_path-plan.ensures, b.0, b.1)
+returns-in-Path c = let b = one_bounds _ _ _ c.one_path-plan.ensures (omega (arith, c.path_words.ensures.0)) in (λ tables ring f. alone_path tables ring _ f _ _ _ _ _ _ _ _ (c.in_ok-found.was ∙ ap Ok c.in-Path.is) c.path_words.ensures c.one_path-plan.ensures, b.0, b.1)
