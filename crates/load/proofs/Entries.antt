@@ -14,7 +14,6 @@ use lib.Seq.{take-suc-set}
 use Rattle.refusal.specs.Outcome.{Outcome, value, refused, bind}
 use Rattle.refusal.specs.Refusal.{refusal_of}
 use Rattle.refusal.specs.declared.Site.{Site}
-use Rattle.refusal.specs.declared.Fault.TheVariants.{NoField}
 use Rattle.layout.specs.Layout.{word}
 use Rattle.layout.specs.Description.{Description}
 use Rattle.register.specs.Line.{register_of}

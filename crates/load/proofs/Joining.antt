@@ -29,14 +29,13 @@ use Rattle.listing.proofs.Laws.{after_end, adapter_head_lem, device_head_lem, re
 use Rattle.tables.specs.Rows.{DeviceRow, Rows, no_rows, joined}
 use Rattle.usb4.specs.Codes.{device_kind_of}
 use Rattle.adapter.specs.Adapter.{adapter_site}
-use Rattle.tables.specs.Packed.{entry_word, adapter_word, device_word, entries_in, adapters_in, devices_from, devices_in}
+use Rattle.tables.specs.Packed.{adapter_word, device_word, entries_in, adapters_in, devices_from, devices_in}
 use Rattle.tables.proofs.Laws.{rising_entries, rising_adapters}
 use Rattle.load.specs.Loading.{itself, and_then, load_adapter, load_adapters, router_cs1, upstream_in, device_row, device_rows, fits, no_registers, load_device, load_from, loaded}
-use Rattle.load.specs.Answers.{rows_by, loaded_rows, UsableBy}
+use Rattle.load.specs.Answers.{rows_by, UsedBy}
 use Rattle.refusal.specs.declared.Refusal.{Refusal}
 use Rattle.refusal.specs.declared.Refusal.TheVariants as refusal
-use Rattle.load.specs.Work.{rows_so_far, Passed, adapter_rows, AdapterWithin, adapters_rows, AdaptersWithin, ToDevice, fits_by, device_load_rows, DeviceWithin, with_device, filled_rows, FilledWithin, into_rows, IntoWithin}
-use Rattle.load.specs.declared.Loaded.{Loaded}
+use Rattle.load.specs.Work.{rows_so_far, Passed, adapter_rows, AdapterWithin, adapters_rows, AdaptersWithin, ToDevice, fits_by, device_load_rows, DeviceWithin, with_device, filled_rows, FilledWithin, IntoWithin}
 use Rattle.load.proofs.Order.{entries_rise, adapters_rise}
 use Rattle.refusal.specs.Refusal.{fault_outcome, outcome, field_at}
 use Rattle.refusal.proofs.Laws.{ended}
@@ -45,7 +44,6 @@ use Rattle.load.specs.Work.{adapter_loaded}
 use Rattle.load.specs.Work.{adapters_loaded}
 use Rattle.load.specs.Work.{device_loaded}
 use Rattle.load.specs.Work.{filled_to}
-use Rattle.load.specs.Answers.{counted}
 use Rattle.load.specs.declared.AdapterLoad.{AdapterLoad}
 use Rattle.load.specs.declared.AdaptersLoad.{AdaptersLoad}
 use Rattle.load.specs.declared.DeviceLoad.{DeviceLoad}
@@ -114,30 +112,17 @@ put_device rs ms n r m h k =
 
 -- ---- answers
 
-rows_into : (l : Loaded) (a : Result Counts Refusal) → rows_by l a ≡ into_rows l.entries l.adapters l.routes l.marks a
-unfolding rows_by into_rows
-rows_into l (Ok x) = refl
-rows_into l (Err r) = refl
-
-pub loaded_into : (l : Loaded) → loaded_rows l ≡ into_rows l.entries l.adapters l.routes l.marks l.answer
-unfolding loaded_rows
-loaded_into l = rows_into l l.answer
-
 -- tables that hold what a survey loads to can be searched
-usable_by : (t s : List ℕ) (l : Loaded) (a : Result Counts Refusal) → rows_by l a ≡ loaded t s → IntoWithin a → UsableBy l a
-unfolding rows_by IntoWithin UsableBy
-usable_by t s l (Ok x) same within = record {
+pub used_by : (t s en ad ro ma : List ℕ) (r : Result Counts Refusal) → rows_by en ad ro ma r ≡ loaded t s → IntoWithin r → UsedBy en ad r
+unfolding rows_by IntoWithin UsedBy
+used_by t s en ad ro ma (Ok x) same within = record {
   entries = within.0;
   adapters = within.1;
   devices = within.2;
-  entry_order = rising_entries (take x.entries l.entries) (entries_rise t s _ (sym same));
-  adapter_order = rising_adapters (take x.adapters l.adapters) (adapters_rise t s _ (sym same));
+  entry_order = rising_entries (take x.entries en) (entries_rise t s _ (sym same));
+  adapter_order = rising_adapters (take x.adapters ad) (adapters_rise t s _ (sym same));
 }
-usable_by t s l (Err r) same within = within
-
-pub usable : (t s : List ℕ) (l : Loaded) → loaded_rows l ≡ loaded t s → IntoWithin l.answer → UsableBy l l.answer
-unfolding loaded_rows
-usable t s l same within = usable_by t s l l.answer same within
+used_by t s en ad ro ma (Err r) same within = within
 
 -- ---- 3, then 4, then loading
 
@@ -159,8 +144,8 @@ unfolding IntoWithin
 within_refused r = le_refl 0
 
 module _ (t s en ad ro ma : List ℕ) where
-  pub into_descriptions : (q : Result Unit Refusal) (p : Refusal) → outcome q ≡ description.check_of t → q ≡ Err p → into_rows en ad ro ma (Err p) ≡ loaded t s
-  unfolding into_rows loaded description.read_descriptions
+  pub into_descriptions : (q : Result Unit Refusal) (p : Refusal) → outcome q ≡ description.check_of t → q ≡ Err p → rows_by en ad ro ma (Err p) ≡ loaded t s
+  unfolding rows_by loaded description.read_descriptions
   into_descriptions q p e k = ended (Err p) (description.read_descriptions t) (ended q (description.check_of t) e _ p k) _ p refl
 
   module _ (good : value tt ≡ description.check_of t) where
@@ -168,8 +153,8 @@ module _ (t s en ad ro ma : List ℕ) where
     unfolding loaded description.read_descriptions bind
     after_descriptions = ap (λ o. bind (bind o (λ ok. value (descriptions_of t))) (λ ds. bind (read_survey s) (λ devices. load_from ds 0 devices))) good
 
-    pub into_survey : (q : Result Unit Refusal) (p : Refusal) → outcome q ≡ survey.check_of s → q ≡ Err p → into_rows en ad ro ma (Err p) ≡ loaded t s
-    unfolding into_rows read_survey
+    pub into_survey : (q : Result Unit Refusal) (p : Refusal) → outcome q ≡ survey.check_of s → q ≡ Err p → rows_by en ad ro ma (Err p) ≡ loaded t s
+    unfolding rows_by read_survey
     into_survey q p e k = ended (Err p) (read_survey s) (ended q (survey.check_of s) e _ p k) _ p refl ∙ after_descriptions
 
     module _ (ok : value tt ≡ survey.check_of s) (r : Result Counts Fault) (same : filled_rows en ad ro ma r ≡ load_from (descriptions_of t) 0 (devices_of s)) where
@@ -177,15 +162,15 @@ module _ (t s en ad ro ma : List ℕ) where
       unfolding read_survey bind
       into_filled = same ∙ ap (λ o. bind (bind o (λ ok. value (devices_of s))) (λ devices. load_from (descriptions_of t) 0 devices)) ok ∙ after_descriptions
 
-      pub into_fault : (f : Fault) → r ≡ Err f → into_rows en ad ro ma (Err (refusal.Fault f)) ≡ loaded t s
-      unfolding into_rows filled_rows
+      pub into_fault : (f : Fault) → r ≡ Err f → rows_by en ad ro ma (Err (refusal.Fault f)) ≡ loaded t s
+      unfolding rows_by filled_rows
       into_fault f q = ap (λ x. filled_rows en ad ro ma x) (sym q) ∙ into_filled
 
-      pub into_tables : (e a d : ℕ) → r ≡ filled_to e a d → into_rows en ad ro ma (counted e a d) ≡ loaded t s
-      unfolding into_rows filled_rows
+      pub into_tables : (e a d : ℕ) → r ≡ filled_to e a d → rows_by en ad ro ma (Ok (record { entries = e; adapters = a; devices = d })) ≡ loaded t s
+      unfolding rows_by filled_rows
       into_tables e a d q = ap (λ x. filled_rows en ad ro ma x) (sym q) ∙ into_filled
 
-pub within_tables : (n m k : ℕ) (r : Result Counts Fault) (e a d : ℕ) → FilledWithin n m k r → r ≡ filled_to e a d → n ≡ 4096 → m ≡ 16384 → k ≡ 4096 → IntoWithin (counted e a d)
+pub within_tables : (n m k : ℕ) (r : Result Counts Fault) (e a d : ℕ) → FilledWithin n m k r → r ≡ filled_to e a d → n ≡ 4096 → m ≡ 16384 → k ≡ 4096 → IntoWithin (Ok (record { entries = e; adapters = a; devices = d }))
 unfolding FilledWithin IntoWithin
 within_tables n m k r e a d h q en ad ro =
     let w = subst (λ x. FilledWithin n m k x) q h in

@@ -1,5 +1,5 @@
 -- Laws on what one adapter loads to. Assumes nothing.
-use Prim.Native.Nat.{ℕ, ◌+◌, ◌/◌, ◌%◌, ◌≤◌}
+use Prim.Native.Nat.{ℕ, ◌/◌, ◌%◌, ◌≤◌}
 use native.Mathlib.Omega.{arith}
 use mathlib.Core.Path.{◌≡◌, refl, sym, ap, ◌∙◌, subst}
 use mathlib.Core.Bool.{Bool, true, false, cond, not, ◌&&◌}
@@ -19,7 +19,7 @@ use Rattle.usb4.specs.declared.State.{State}
 use Rattle.layout.specs.Layout.{word}
 use Rattle.layout.specs.Description.{Description}
 use Rattle.survey.specs.Devices.{Adapter}
-use Rattle.listing.specs.After.{after, adapter_at}
+use Rattle.listing.specs.After.{adapter_at}
 use Rattle.named.specs.Named.{Named}
 use Rattle.adapter.specs.Adapter.{kind_of, min_hop, narrow, max_hop_in, max_hop, parse_state, AdapterRow, adapter_site, few_registers, row_of, decode_of, facts_row, decoded_outcome}
 use Rattle.adapter.specs.Paths.{PathEntry, entries_by, entries_of}

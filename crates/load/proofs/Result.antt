@@ -1,53 +1,59 @@
 -- Laws for the calls that load a survey and go on with its tables. Assumes nothing.
 use Prim.Native.Nat.{ℕ}
-use mathlib.Core.Path.{◌≡◌, refl, sym, ap, ◌∙◌, subst}
+use native.Mathlib.Omega.{arith}
+use mathlib.Core.Path.{◌≡◌, sym, ap, ◌∙◌, subst}
 use mathlib.Core.List.{List}
-use mir.Val.{Val}
-use denote.Laws.{Is}
-use denote.Struct.Declared as struct
 use lib.ListN.{length, take}
+use lib.Seq.{length-take-le}
+use Rattle.std.specs.Prelude.{Result, Ok, Err, IfOk}
+use Rattle.std.proofs.lemmas.Result.{IfOk-at_ok}
 use Rattle.refusal.specs.Outcome.{Outcome, bind}
+use Rattle.refusal.specs.Refusal.{outcome}
+use Rattle.refusal.specs.declared.Refusal.{Refusal}
 use Rattle.refusal.proofs.Laws.{refused_bind}
 use Rattle.tables.specs.Rows.{Rows}
-use Rattle.tables.specs.Packed.{entries_in, adapters_in, devices_in}
-use Rattle.load.specs.Loading.{loaded}
-use Rattle.load.specs.Answers.{rows_by, loaded_rows, Usable, UsableBy}
-use Rattle.refusal.specs.Refusal.{refused_by}
-use Rattle.refusal.specs.declared.Refusal.{Refusal}
-use Rattle.refusal.specs.declared.Refusal.TheVariants as refusal
-use Rattle.load.specs.declared.Loaded.{Loaded}
-use Rattle.load.specs.contracts.Loaded as loaded-type
-use Rattle.load.specs.Answers.{counted}
-use Rattle.std.specs.Prelude.{Err}
+use Rattle.tables.specs.Packed.{entry_unit, adapter_unit, Sorted}
+use Rattle.tables.specs.Tables.{rows_of, Fits, Tabled}
+use Rattle.tables.specs.declared.Tables.{Tables}
+use Rattle.load.specs.Answers.{rows_by, Used, UsedBy, tables_rows}
+use Rattle.load.specs.declared.Counts.{Counts}
 
--- the rows of the tables that loading answered
-abbrev pub tables_in : Loaded → ℕ → ℕ → ℕ → Rows
-tables_in l e a d = record { entries = entries_in (take e l.entries); adapters = adapters_in (take a l.adapters); devices = devices_in (take d l.routes) (take d l.marks) }
+-- the parts of the tables that are used, by the invariant
+module _ (en ad : List ℕ) (r : Result Counts Refusal) (h : UsedBy en ad r) (x : Counts) (k : r ≡ Ok x) where
+  pub used : Used en ad x
+  unfolding UsedBy
+  used = subst (UsedBy en ad) k h
 
-module _ {B : Type 0} (l : Loaded) (t s : List ℕ) (same : loaded_rows l ≡ loaded t s) (f : Rows → Outcome B) where
-  pub load_refused : (r : Refusal) → l.answer ≡ Err r → refused_by r ≡ bind (loaded t s) f
-  unfolding loaded_rows rows_by
-  load_refused r e = sym (refused_bind r f) ∙ ap (λ (o : Outcome Rows). bind o f) (sym (ap (rows_by l) e) ∙ same)
+  pub used_fits : (ro : List ℕ) (t : Tables) → length en ≡ 4096 → length ad ≡ 16384 → length ro ≡ 4096 → t.entries.now ≡ take x.entries en → t.adapters.now ≡ take x.adapters ad → t.routes.now ≡ take x.devices ro → Fits t × Tabled t
+  used_fits ro t le la lr a b c =
+      let u = used in
+      let e = ap length a ∙ length-take-le x.entries en (omega (arith, le, u.entries)) in
+      let n = ap length b ∙ length-take-le x.adapters ad (omega (arith, la, u.adapters)) in
+      let d = ap length c ∙ length-take-le x.devices ro (omega (arith, lr, u.devices)) in (
+        record { sized = record { entries = omega (arith, e, u.entries); devices = omega (arith, d, u.devices) }; adapters = omega (arith, n, u.adapters) },
+        record { entry_order = subst (Sorted entry_unit) (sym a) u.entry_order; adapter_order = subst (Sorted adapter_unit) (sym b) u.adapter_order; devices = omega (arith, d, u.devices) },
+      )
 
-  pub load_tables : (e a d : ℕ) → l.answer ≡ counted e a d → f (tables_in l e a d) ≡ bind (loaded t s) f
-  unfolding loaded_rows rows_by bind
-  load_tables e a d g = ap (λ (o : Outcome Rows). bind o f) (sym (ap (rows_by l) g) ∙ same)
+-- what they hold, by the view
+module _ (en ad ro ma : List ℕ) (r : Result Counts Refusal) (o : Outcome Rows) (is : rows_by en ad ro ma r ≡ o) where
+  pub refused_rows : (e : Refusal) → r ≡ Err e → tables_rows (Err e) ≡ o
+  unfolding rows_by tables_rows
+  refused_rows e k = sym (ap (rows_by en ad ro ma) k) ∙ is
 
-pub usable : (l : Loaded) (e a d : ℕ) → l.answer ≡ counted e a d → UsableBy l l.answer → Usable l e a d
-unfolding UsableBy
-usable l e a d g u = subst (UsableBy l) g u
+  pub used_rows : (x : Counts) → r ≡ Ok x → (t : Tables) → t.entries.now ≡ take x.entries en → t.adapters.now ≡ take x.adapters ad → t.routes.now ≡ take x.devices ro → t.marks.now ≡ take x.devices ma → tables_rows (Ok t) ≡ o
+  unfolding rows_by tables_rows rows_of
+  used_rows x k t a b c d = rw (a, b, c, d) (sym (ap (rows_by en ad ro ma) k) ∙ is)
 
--- how long the tables are
-pub record Sizes (l : Loaded) : Type 0 where
-  pub entries : length l.entries ≡ 4096
-  pub adapters : length l.adapters ≡ 16384
-  pub routes : length l.routes ≡ 4096
-  pub marks : length l.marks ≡ 4096
+-- what `?` does of `tables`, by what the survey loads to
+module _ {B : Type 0} (q : Result Tables Refusal) (o : Outcome Rows) (is : tables_rows q ≡ o) (f : Rows → Outcome B) where
+  pub tables_ended : (r : Refusal) → q ≡ Err r → outcome (Err r) ≡ bind o f
+  unfolding tables_rows
+  tables_ended r k = sym (refused_bind r f) ∙ ap (λ (w : Outcome Rows). bind w f) (sym (ap tables_rows k) ∙ is)
 
-pub sizes : (l : Loaded) (vs : List Val) → Is (struct.row loaded-type.the_type) l vs → Sizes l
-sizes l vs o = record {
-  entries = o.1.1.1.0.1.0.1;
-  adapters = o.1.1.1.1.0.1.0.1;
-  routes = o.1.1.1.1.1.0.1.0.1;
-  marks = o.1.1.1.1.1.1.0.1.0.1;
-}
+  pub tables_gone_on : (t : Tables) → q ≡ Ok t → bind o f ≡ f (rows_of t)
+  unfolding tables_rows bind
+  tables_gone_on t k = ap (λ (w : Outcome Rows). bind w f) (sym is ∙ ap tables_rows k)
+
+-- tables that were answered are in order, and no larger than a survey's
+pub tables_fit : (q : Result Tables Refusal) (t : Tables) → q ≡ Ok t → IfOk q (λ t. Fits t × Tabled t) → Fits t × Tabled t
+tables_fit q t k h = IfOk-at_ok _ k h

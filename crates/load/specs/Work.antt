@@ -14,12 +14,9 @@ use Rattle.paths.specs.Reading.{entry_fields, fields_for}
 use Rattle.paths.specs.declared.EntryFields.{EntryFields}
 use Rattle.load.specs.Loading.{fitting}
 use Rattle.tables.specs.Rows.{EntryRow, DeviceRow, Rows}
-use Rattle.tables.specs.Packed.{adapter_word, device_word, entries_in, adapters_in, devices_in}
-use Rattle.refusal.specs.Refusal.{refused_by}
+use Rattle.tables.specs.Packed.{device_word, entries_in, adapters_in, devices_in}
 use Rattle.load.specs.declared.Kept.{Kept}
 use Rattle.refusal.specs.declared.FieldError.{FieldError}
-use Rattle.refusal.specs.declared.FieldError.TheVariants as field
-use Rattle.load.specs.Answers.{counted}
 use Rattle.load.specs.declared.Pushed.{Pushed}
 use Rattle.load.specs.declared.AdapterLoad.{AdapterLoad}
 use Rattle.load.specs.declared.AdaptersLoad.{AdaptersLoad}
@@ -137,10 +134,6 @@ filled_rows en ad ro ma (Err f) = refusal_of f
 unfoldable pub FilledWithin : ℕ → ℕ → ℕ → Result Counts Fault → Type 0
 FilledWithin en ad ro (Ok x) = (x.entries ≤ en) × (x.adapters ≤ ad) × (x.devices ≤ ro)
 FilledWithin en ad ro (Err f) = 0 ≤ 0
-
-unfoldable pub into_rows : List ℕ → List ℕ → List ℕ → List ℕ → Result Counts Refusal → Outcome Rows
-into_rows en ad ro ma (Ok x) = value (record { entries = entries_in (take x.entries en); adapters = adapters_in (take x.adapters ad); devices = devices_in (take x.devices ro) (take x.devices ma) })
-into_rows en ad ro ma (Err r) = refused_by r
 
 unfoldable pub IntoWithin : Result Counts Refusal → Type 0
 IntoWithin (Ok x) = (x.entries ≤ 4096) × (x.adapters ≤ 16384) × (x.devices ≤ 4096)

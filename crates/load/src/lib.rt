@@ -1,7 +1,7 @@
 // Loading a survey: document 01's order of refusals 3 to 9, and the tables that every call on a survey goes on with.
 #![tactic(auto)]
 
-ghost use Rattle.std.specs.Prelude.{ℕ, ◌+◌, ◌*◌, ◌≤◌, ◌<◌, ◌≡◌, eqb, List, [], ◌∷◌, map, ◌++◌, length, take};
+ghost use Rattle.std.specs.Prelude.{ℕ, ◌+◌, ◌*◌, ◌≤◌, ◌<◌, ◌≡◌, eqb, List, [], ◌∷◌, map, ◌++◌, length, take, IfOk};
 ghost use Rattle.refusal.specs.Outcome.{value, bind};
 ghost use Rattle.refusal.specs.declared.Site.{Site};
 ghost use Rattle.layout.specs.Description.{Description, descriptions_of};
@@ -13,15 +13,18 @@ ghost use Rattle.listing.specs.After.{after, adapter_at, device_at, register_at}
 ghost use Rattle.adapter.specs.Adapter.{adapter_site, facts_row, min_hop};
 ghost use Rattle.adapter.specs.Paths.{entries_from, entries_by};
 ghost use Rattle.tables.specs.Packed.{speed_by, number_by, upstream_by, entry_word, adapter_word, device_word, entries_in};
+ghost use Rattle.tables.specs.Tables.{Fits, Tabled};
 ghost use Rattle.load.specs.Loading.{and_then, owned, load_adapter, load_adapters, router_cs1, upstream_in, fitting, load_device, load_from, loaded};
-ghost use Rattle.load.specs.Answers.{loaded_rows, UsableBy, counts_of};
-ghost use Rattle.load.specs.Work.{HopFits, rows_so_far, pushed_rows, FieldsAt, KeptFor, OneMore, PushedWithin, adapter_rows, AdapterWithin, adapters_rows, AdaptersWithin, fits_by, device_load_rows, DeviceWithin, filled_rows, FilledWithin, into_rows, IntoWithin};
+ghost use Rattle.load.specs.Answers.{rows_by, tables_rows, counts_of};
+ghost use Rattle.load.specs.Work.{HopFits, rows_so_far, pushed_rows, FieldsAt, KeptFor, OneMore, PushedWithin, adapter_rows, AdapterWithin, adapters_rows, AdaptersWithin, fits_by, device_load_rows, DeviceWithin, filled_rows, FilledWithin, IntoWithin};
 ghost use Rattle.refusal.specs.Refusal.{fault_outcome, outcome, field_at};
 
 use adapter::Facts;
 use named::NamedAt;
 use paths::EntryFields;
 use refusal::{Fault, FieldError, Refusal, Site};
+use std::marker::Model;
+use tables::Tables;
 use usb4::{AdapterType, Speed};
 
 // How many words of each table are used: how many rows of each kind there are.
@@ -35,11 +38,40 @@ pub struct Counts {
 // A loaded survey: entries and adapters a word each, in the survey's order, and devices a word in each of two tables. tables/specs/Packed.antt says what a word holds.
 #[derive(Drop)]
 pub struct Loaded {
-    pub answer: Result<Counts, Refusal>,
-    pub entries: [u64; 4096],
-    pub adapters: [u64; 16384],
-    pub routes: [u64; 4096],
-    pub marks: [u64; 4096],
+    answer: Result<Counts, Refusal>,
+    entries: [u64; 4096],
+    adapters: [u64; 16384],
+    routes: [u64; 4096],
+    marks: [u64; 4096],
+}
+
+impl Model for Loaded {
+    ghost use Rattle.refusal.specs.Outcome.{Outcome};
+    ghost use Rattle.tables.specs.Rows.{Rows};
+
+    ghost Value = { Outcome Rows };
+
+    ghost use Rattle.load.specs.Answers.{rows_by, UsedBy};
+
+    ghost view = { λ l. rows_by l.entries l.adapters l.routes l.marks l.answer };
+
+    ghost invariant = { λ l. UsedBy l.entries l.adapters l.answer };
+}
+
+impl Loaded {
+    // The parts of the tables that are used, or why the survey is refused.
+    pub fn tables(&self) -> Result<Tables<'_>, Refusal>
+        ensures rows { tables_rows result ≡ self.now }
+        ensures fits { IfOk result (λ t. Fits t × Tabled t) }
+    {
+        let counts = self.answer?;
+        Ok(Tables {
+            entries: &self.entries[..counts.entries],
+            adapters: &self.adapters[..counts.adapters],
+            routes: &self.routes[..counts.devices],
+            marks: &self.marks[..counts.devices],
+        })
+    }
 }
 
 // The entries so far, and where the next register may stand.
@@ -558,7 +590,7 @@ fn load_into(
     marks: &mut [u64],
 ) -> Result<Counts, Refusal>
     requires { (length entries.old ≡ 4096) × (length adapters.old ≡ 16384) × (length routes.old ≡ 4096) × (length marks.old ≡ 4096) }
-    ensures rows { into_rows entries.new adapters.new routes.new marks.new result ≡ loaded descriptions.now survey.now }
+    ensures rows { rows_by entries.new adapters.new routes.new marks.new result ≡ loaded descriptions.now survey.now }
     ensures within { IntoWithin result }
 {
     description::check(descriptions)?;
@@ -568,8 +600,7 @@ fn load_into(
 
 // A survey, loaded: every fault of loading is met here, in document 01's order, and nothing is looked up by name afterwards.
 pub fn load(descriptions: &[u32], survey: &[u32]) -> Loaded
-    ensures answer { loaded_rows result ≡ loaded descriptions.now survey.now }
-    ensures usable { UsableBy result result.answer }
+    ensures { result ≡ loaded descriptions.now survey.now }
 {
     let mut entries = [0u64; 4096];
     let mut adapters = [0u64; 16384];

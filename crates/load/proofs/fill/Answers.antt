@@ -2,7 +2,7 @@ use Rattle.std.proofs.lemmas.Result.{err_from_is_err_and}
 use Rattle.load.proofs.Joining.{filling_start, filling_adapter, filling_end, filling_within, filling_fault, filling_next, device_passed, route_told}
 use Rattle.load.specs.Work.{filled_rows, FilledWithin}
 use lib.ListN.{length-set}
-use Prim.Native.Nat.{◌+◌, ◌-◌, ◌*◌}
+use Prim.Native.Nat.{◌+◌, ◌*◌}
 use native.Mathlib.Omega.{arith}
 use mathlib.Core.Path.{refl, ◌∙◌}
 use Rattle.load.proofs.fill.Goals as goal

@@ -1,7 +1,6 @@
 use Rattle.refusal.proofs.Laws.{no_field}
 use Rattle.std.specs.Prelude.{Err}
 use Rattle.std.proofs.lemmas.Result.{err_from_is_err_and}
-use Prim.Native.Nat.{◌-◌}
 use mathlib.Core.Path.{◌∙◌, ap}
 use Rattle.load.specs.Work.{KeptFor}
 use Rattle.load.proofs.Entries as laws
