@@ -14,7 +14,7 @@ use Rattle.refusal.specs.Outcome.{Outcome, refused, value, bind}
 use Rattle.tables.specs.Rows.{EntryRow}
 use Rattle.tables.specs.Packed.{entry_word, entries_in}
 use Rattle.tables.proofs.Laws.{device_past_routes}
-use Rattle.refusal.specs.Refusal.{refused_by}
+use Rattle.refusal.specs.Refusal.{refused_by, is_given}
 use Rattle.load.specs.Loading.{valid_entries}
 use Rattle.refusal.specs.declared.Refusal.{Refusal}
 use Rattle.refusal.proofs.Laws.{refused_bind}
@@ -24,14 +24,14 @@ use Rattle.fabric.specs.Fabric.{leads}
 use Rattle.fabric.proofs.Laws.{leads_missing}
 use Rattle.walk.specs.Walking.{turn_by, walk_on, path_of}
 use Rattle.walk.specs.Rule.{settled, walk_from, in_room}
-use Rattle.walk.specs.Tables.{Leaving, leaves, leaving_of, leaving_by, tally_outcome, hops_by, is_path as is-path, Tallied}
+use Rattle.walk.specs.Tables.{Leaving, leaves, leaving_of, leaving_by, tally_outcome, hops_by, Tallied}
 use Rattle.path.specs.Words.{hops_words, path_words, words_needed, with_path, output_by}
 use Rattle.path.specs.Work.{walk_in, so_far, HopsPut}
-use Rattle.path.specs.Put.{is_path, Put, WalkPut}
+use Rattle.path.specs.Put.{Put, WalkPut}
 use Rattle.walk.proofs.Leading.{there_below}
 use Rattle.walk.proofs.Laws.{walk_ends, ranked, hopped, sound, rule}
 use Rattle.path.proofs.Writing.{refused_as_lem, length_path_words}
-use Rattle.refusal.specs.Refusal.{outcome}
+use Rattle.refusal.specs.Refusal.{outcome, is_given}
 use Rattle.refusal.specs.declared.Refusal.TheVariants as refusal
 use Rattle.walk.specs.Tables.{walked_to}
 use Rattle.walk.specs.declared.Walked.{Walked}
@@ -145,7 +145,7 @@ module _ (tables : Tables) (s : Stand) (name : ℕ) (out : List ℕ) where
   -- an answer and an output that follow the walk keep demand 3
   put_by : (a : Result (Option ℕ) Refusal) (out' : List ℕ)
       → (Sized tables → Tabled tables → s.place < 65536 → (outcome a ≡ bind whole_walk (in_room (words_needed name) (length out))) × (out' ≡ output_by name whole_walk out))
-      → (65535 < s.place → a ≡ (Ok None)) → ((Sized tables → ⊥) → a ≡ (Ok None)) → (is_path a ≡ false → out' ≡ out)
+      → (65535 < s.place → a ≡ (Ok None)) → ((Sized tables → ⊥) → a ≡ (Ok None)) → (is_given a ≡ false → out' ≡ out)
       → ((n : ℕ) → a ≡ Ok (Some n) → (0 < n) × (1 + 2 * n ≤ length out) × (drop (1 + 2 * n) out' ≡ drop (1 + 2 * n) out)) → length out' ≡ length out → Put tables s name out a out'
   unfolding rows_of
   put_by a out' follows past larger kept path long = record {
@@ -165,14 +165,14 @@ module _ (tables : Tables) (s : Stand) (name : ℕ) (out : List ℕ) where
   }
 
   -- no path, and nothing is written
-  put_none : (a : Result (Option ℕ) Refusal) → is_path a ≡ false → (Sized tables → Tabled tables → s.place < 65536 → (outcome a ≡ bind whole_walk (in_room (words_needed name) (length out))) × (out ≡ output_by name whole_walk out))
+  put_none : (a : Result (Option ℕ) Refusal) → is_given a ≡ false → (Sized tables → Tabled tables → s.place < 65536 → (outcome a ≡ bind whole_walk (in_room (words_needed name) (length out))) × (out ≡ output_by name whole_walk out))
       → (65535 < s.place → a ≡ (Ok None)) → ((Sized tables → ⊥) → a ≡ (Ok None)) → Put tables s name out a out
-  unfolding is_path
-  put_none a b follows past larger = put_by a out follows past larger (λ p. refl) (λ n e. absurd (true≢false (sym (ap is_path e) ∙ b))) refl
+  unfolding is_given
+  put_none a b follows past larger = put_by a out follows past larger (λ p. refl) (λ n e. absurd (true≢false (sym (ap is_given e) ∙ b))) refl
 
   -- tables larger than a survey's
   pub put_larger : (Sized tables → ⊥) → Put tables s name out (Ok None) out
-  unfolding is_path
+  unfolding is_given
   put_larger n = put_none (Ok None) refl (λ z t l. absurd (n z)) (λ l. refl) (λ z. refl)
 
   -- the outcome put in
@@ -182,14 +182,14 @@ module _ (tables : Tables) (s : Stand) (name : ℕ) (out : List ℕ) where
 
   module _ (r : Result (Option Walked) Refusal) (z : Sized tables) (f : Tallied tables s r) where
     pub put_refused : (x : Refusal) → r ≡ Err x → Put tables s name out (Err x) out
-    unfolding output_by bind tally_outcome is_path
+    unfolding output_by bind tally_outcome is_given
     put_refused x e = put_none (Err x) refl
         (λ y t l. let w = leaves_refused whole_walk x (sym (ap tally_outcome e) ∙ f.answers t l) in by_outcome (Err x) out (refused w.0 w.1) w.2 w.3 refl)
         (λ l. absurd (let p = f.past l in let y : ◌≡◌ {A = ℕ} 0 1 = cc in omega arith))
         (λ n. absurd (n z))
 
     pub put_absent : r ≡ (Ok None) → Put tables s name out (Ok None) out
-    unfolding output_by bind in_room tally_outcome is_path
+    unfolding output_by bind in_room tally_outcome is_given
     put_absent e = put_none (Ok None) refl
         (λ y t l. by_outcome (Ok None) out (value None) (leaves_none whole_walk (sym (ap tally_outcome e) ∙ f.answers t l) (λ q. let h = hopped (rows_of tables) s [] q in omega (arith, h.one, h.long))) refl refl)
         (λ l. refl)
@@ -205,7 +205,7 @@ module _ (tables : Tables) (s : Stand) (name : ℕ) (out : List ℕ) where
       no_path_lem l = let p = f.past l in let y : ◌≡◌ {A = ℕ} 0 1 = cc in omega arith
 
       pub put_short : length out < 1 + 2 * n → Put tables s name out (Err (refusal.Short (1 + 2 * n))) out
-      unfolding output_by bind in_room is_path
+      unfolding output_by bind in_room is_given
       put_short k = put_none _ refl
           (λ y t l.
           let w = hops_are t l in
@@ -216,7 +216,7 @@ module _ (tables : Tables) (s : Stand) (name : ℕ) (out : List ℕ) where
           (λ x. absurd (x z))
 
       pub put_whole : (S : List ℕ) (i : ℕ) → 1 + 2 * n ≤ length out → length S ≡ length (take (1 + 2 * n) out) → WalkPut tables s name (take (1 + 2 * n) out) i S → Put tables s name out (Ok (Some n)) (S ++ drop (1 + 2 * n) out)
-      unfolding output_by bind in_room is_path with_path
+      unfolding output_by bind in_room is_given with_path
       put_whole S i k m v = let few = hops_few tables s r z f n q a h e in put_by _ (S ++ drop (1 + 2 * n) out)
           (λ y t l.
           let w = hops_are t l in
