@@ -226,7 +226,7 @@ fn seek_path(tables: &Tables, ring: u16, notes: &mut [u64]) -> Sought
                 let found = Ok(Received::Lost);
                 return Sought { found, noted };
             }
-            Ok(LaneFound::Passed) => {}
+            Ok(LaneFound::Passed) => continue,
             Ok(
                 LaneFound::At {
                     place,
