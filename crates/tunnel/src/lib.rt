@@ -1,7 +1,8 @@
 // Tunnels of an adapter (module 7, `discover_usb3`, `discover_dp`, `discover_pcie`, `discover_one_dma`), as plans, on the tables that a survey is loaded to.
 #![tactic(auto)]
 
-ghost use Rattle.std.specs.Prelude.{ℕ, ◌+◌, ◌*◌, ◌≤◌, ◌<◌, ◌≡◌, ◌&&◌, List, eqb};
+ghost use Rattle.std.specs.Prelude.{ℕ, ◌+◌, ◌*◌, ◌≤◌, ◌<◌, ◌≡◌, ◌&&◌, eqb};
+ghost use Rattle.tables.specs.declared.Tables.{Tables};
 ghost use Rattle.receive.specs.Receive.{at};
 ghost use Rattle.receive.specs.Tables.{Receives};
 ghost use Rattle.tunnel.specs.Tunnels.{down_and_up, display_port};
