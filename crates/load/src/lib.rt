@@ -63,6 +63,7 @@ impl Loaded {
     pub fn tables(&self) -> Result<Tables<'_>, Refusal>
         ensures rows { tables_rows result ≡ self.now }
         ensures fits { IfOk result (λ t. Fits t × Tabled t) }
+        ensures marks { IfOk result (λ t. length t.marks.now ≡ length t.routes.now) }
     {
         let counts = self.answer?;
         Ok(Tables {
