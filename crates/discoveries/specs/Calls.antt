@@ -3,8 +3,8 @@ use Rattle.std.specs.Prelude.{ℕ, ◌≡◌, false, List, length, Result, Optio
 use Rattle.refusal.specs.Outcome.{Outcome, bind}
 use Rattle.load.specs.Loading.{loaded}
 use Rattle.tunnel.specs.Tunnels.{Tunnel}
-use Rattle.discovery.specs.Answers.{discover_at, in_room, output_by, is_list}
-use Rattle.refusal.specs.Refusal.{outcome}
+use Rattle.discovery.specs.Answers.{discover_at, in_room, output_by}
+use Rattle.refusal.specs.Refusal.{outcome, is_given}
 use Rattle.refusal.specs.declared.Refusal.{Refusal}
 
 unfoldable pub discover_answer : List ℕ → List ℕ → ℕ → ℕ → Outcome (Option (List Tunnel))
@@ -15,4 +15,4 @@ pub record DiscoverDone (t v : List ℕ) (p a : ℕ) (output : List ℕ) (r : Re
   pub answers : outcome r ≡ bind (discover_answer t v p a) (in_room (length output))
   pub writes : output' ≡ output_by (discover_answer t v p a) output
   -- what isn't a list is not written
-  pub kept : is_list r ≡ false → output' ≡ output
+  pub kept : is_given r ≡ false → output' ≡ output

@@ -12,7 +12,7 @@ use lib.ListN.{length, take, drop, drop_of_length-le}
 use lib.Seq.{length-take-le, length_front, drop_at}
 use borrow.Author.Tests.{lt-ltb, le-ltb, eq-eqb, ne_eqb}
 use Rattle.refusal.specs.Outcome.{Outcome, refused, value, bind}
-use Rattle.refusal.specs.Refusal.{at as site-at, refusal_of, field_at}
+use Rattle.refusal.specs.Refusal.{at as site-at, refusal_of, field_at, is_given}
 use Rattle.refusal.specs.declared.Fault.TheVariants.{NoField}
 use Rattle.usb4.specs.Numbers.{type_number, state_number}
 use Rattle.usb4.specs.declared.AdapterType.{AdapterType}
@@ -28,14 +28,14 @@ use Rattle.tables.specs.Found.{device_found, adapter_found, AdapterSought}
 use Rattle.tables.specs.declared.DeviceFacts.{DeviceFacts}
 use Rattle.tables.proofs.Laws.{type_round, device_past_routes}
 use Rattle.load.specs.Answers.{present, asked_device, asked_adapter}
-use Rattle.refusal.specs.Refusal.{refused_by, outcome, field_at}
+use Rattle.refusal.specs.Refusal.{refused_by, outcome, field_at, is_given}
 use Rattle.refusal.specs.declared.Refusal.{Refusal}
 use Rattle.refusal.specs.declared.Refusal.TheVariants as refusal
 use Rattle.tunnel.specs.Tunnels.{Tunnel, down_and_up, display_port, rings, or_none, dma, alone, of_kind, discover}
 use Rattle.tunnel.specs.Words.{tunnels_words}
 use Rattle.tunnel.specs.Plans.{plan_if, planned_as, planned_outcome, words_by, paths_by, Plans}
 use Rattle.tunnel.specs.declared.Plan.{Plan as Planned}
-use Rattle.discovery.specs.Answers.{discover_at, in_room, output_by, is_list}
+use Rattle.discovery.specs.Answers.{discover_at, in_room, output_by}
 use Rattle.discovery.specs.Tables.{Discovered}
 use Rattle.discovery.specs.Work.{Wrote, Walks, PlanPut, tally_of, Tallies, RingsPut, Follows, Free, OneAnswered, Answered, ring_list, dma_by, tunnel_by, rings_end}
 use Rattle.discovery.proofs.Walks.{down_and_up_walks, display_port_walks}
@@ -80,12 +80,12 @@ module _ (o : Outcome (Option (List Tunnel))) (out : List ℕ) where
 
 -- ---- on any tables
 
-pub free_kept : (out : List ℕ) (r : Result (Option ℕ) Refusal) → is_list r ≡ false → Free out r out
-unfolding is_list
-free_kept out r b = record { kept = λ q. refl; fits = λ n e. absurd (true≢false (sym (ap is_list e) ∙ b)); tail = λ n e. refl; long = refl }
+pub free_kept : (out : List ℕ) (r : Result (Option ℕ) Refusal) → is_given r ≡ false → Free out r out
+unfolding is_given
+free_kept out r b = record { kept = λ q. refl; fits = λ n e. absurd (true≢false (sym (ap is_given e) ∙ b)); tail = λ n e. refl; long = refl }
 
 pub free_words : (out S : List ℕ) (w : ℕ) → w ≤ length out → length S ≡ length (take w out) → Free out (Ok (Some w)) (S ++ drop w out)
-unfolding is_list
+unfolding is_given
 free_words out S w l n = record {
   kept = λ q. absurd (true≢false q);
   fits = λ k e. let z : w ≡ k = cc in omega arith;
@@ -100,7 +100,7 @@ answered_as tables p f g out r out' e w = record { follows = λ z t l. subst (λ
 -- ---- one tunnel
 
 pub one_refused : (tables : Tables) (out : List ℕ) (r : Refusal) → OneAnswered tables (Err r) out (Err r) out
-unfolding is_list bind
+unfolding is_given bind
 one_refused tables out r = record {
   follows = λ z t o f w. let y = plan_refused r o f in follows_refused (bind o alone) out r y.0 y.1 (ap (λ q. bind q alone) y.2) y.3;
   free = free_kept out (Err r) refl;
@@ -108,7 +108,7 @@ one_refused tables out r = record {
 
 module _ (tables : Tables) (plan : Option Planned) (out : List ℕ) where
   pub one_absent : plan ≡ None → OneAnswered tables (Ok plan) out (Ok None) out
-  unfolding is_list planned_outcome bind plan_if alone
+  unfolding is_given planned_outcome bind plan_if alone
   one_absent e = record { follows = λ z t o f w. follows_none (bind o alone) out (go o (sym (ap (λ q. planned_outcome (Ok q)) e) ∙ f)); free = free_kept out (Ok None) refl }
     where
       go : (o : Outcome (Option Tunnel)) → value None ≡ bind o (λ t. value (plan_if t)) → bind o alone ≡ value None
@@ -136,7 +136,7 @@ module _ (tables : Tables) (plan : Option Planned) (out : List ℕ) where
     tunnel_words_lem = ap tally_of e
 
     pub one_short : length out < w → OneAnswered tables (Ok plan) out (Err (refusal.Short w)) out
-    unfolding is_list
+    unfolding is_given
     one_short l = record {
       follows = λ z t o f q. let y = one_planned w tunnel_words_lem tunnel_planned o f in follows_short (bind o alone) out (y.0 ∷ []) w y.2 y.3 l;
       free = free_kept out (Err (refusal.Short w)) refl;
@@ -171,14 +171,14 @@ module _ (tables : Tables) (p a : ℕ) (out : List ℕ) where
   Rung m r out' = Answered tables p (λ x. dma_by x p a (field_at (adapter_site p a) m)) out r out'
 
   pub dma_absent : (m : Result (Option ℕ) FieldError) → m ≡ (Ok None) → Rung m (Ok None) out
-  unfolding is_list dma_by bind or_none
+  unfolding is_given dma_by bind or_none
   dma_absent m e = record {
     follows = λ z t l. follows_none (dma_by (rows_of tables) p a (field_at (adapter_site p a) m)) out (ap (λ q. dma_by (rows_of tables) p a (field_at (adapter_site p a) q)) e);
     free = free_kept out (Ok None) refl;
   }
 
   pub dma_unread : (m : Result (Option ℕ) FieldError) → m ≡ (Err field.NoField) → Rung m (Err (refusal.Fault (NoField (adapter_site p a)))) out
-  unfolding is_list dma_by bind refusal_of
+  unfolding is_given dma_by bind refusal_of
   dma_unread m e = record {
     follows = λ z t l. follows_refused (dma_by (rows_of tables) p a (field_at (adapter_site p a) m)) out (refusal.Fault (NoField (adapter_site p a))) 6 (site-at (adapter_site p a)) (ap (λ q. dma_by (rows_of tables) p a (field_at (adapter_site p a) q)) e) (λ A. refl);
     free = free_kept out _ refl;
@@ -199,7 +199,7 @@ module _ (tables : Tables) (p a : ℕ) (out : List ℕ) (k : ℕ) where
 
   module _ (c : Result ℕ Refusal) (f : Tallies tables p a k c) where
     pub list_refused : (r : Refusal) → c ≡ Err r → Listed (Err r) out
-    unfolding is_list bind
+    unfolding is_given bind
     list_refused r d = record {
       follows = λ z t l. let y = counted_refused (rings (rows_of tables) p a 1 k) r (sym (ap outcome d) ∙ f.counts z t l) in follows_refused (ring_list (rows_of tables) p a k) out r y.0 y.1 (ap (λ o. bind o (λ ts. value (Some ts))) y.2) y.3;
       free = free_kept out (Err r) refl;
@@ -211,7 +211,7 @@ module _ (tables : Tables) (p a : ℕ) (out : List ℕ) (k : ℕ) where
       all_rings z t l = let y = counted_words (rings (rows_of tables) p a 1 k) w (sym (ap outcome d) ∙ f.counts z t l) in (y.0, y.1, y.2, ap (λ o. bind o (λ ts. value (Some ts))) y.1)
 
       pub list_short : length out < w → Listed (Err (refusal.Short w)) out
-      unfolding is_list
+      unfolding is_given
       list_short n = record {
         follows = λ z t l. let y = all_rings z t l in follows_short (ring_list (rows_of tables) p a k) out y.0 w y.3 y.2 n;
         free = free_kept out (Err (refusal.Short w)) refl;
@@ -331,7 +331,7 @@ module _ (tables : Tables) (p : ℕ) (f : Facts) (out : List ℕ) (r : Result (O
 
 module _ (tables : Tables) (p : ℕ) (f : Facts) (out : List ℕ) where
   told_none : ((x : Rows) → discover x p (facts_row p f) ≡ value None) → Told tables p f out (Ok None) out
-  unfolding is_list
+  unfolding is_given
   told_none e = record { follows = λ z t l. follows_none (discover (rows_of tables) p (facts_row p f)) out (e (rows_of tables)); free = free_kept out (Ok None) refl }
 
   -- a disabled adapter
@@ -343,14 +343,14 @@ module _ (tables : Tables) (p : ℕ) (f : Facts) (out : List ℕ) where
 
 module _ (tables : Tables) (p a : ℕ) (out : List ℕ) where
   pub in_larger : (Sized tables → ⊥) → Discovered tables p a out (Ok None) out
-  unfolding is_list
+  unfolding is_given
   in_larger n = let f = free_kept out (Ok None) refl in record { answers = λ z t. absurd (n z); writes = λ z t. absurd (n z); larger = λ k. refl; kept = f.kept; fits = f.fits; tail = f.tail; long = f.long }
 
   in_by : (r : Result (Option ℕ) Refusal) (out' : List ℕ) → Sized tables → (Tabled tables → Follows (discover_at (rows_of tables) p a) out r out') → Free out r out' → Discovered tables p a out r out'
   in_by r out' z f g = record { answers = λ y t. (f t).answers; writes = λ y t. (f t).writes; larger = λ n. absurd (n z); kept = g.kept; fits = g.fits; tail = g.tail; long = g.long }
 
   in_missing : Sized tables → (Tabled tables → asked_adapter (rows_of tables) p a ≡ refused 14 []) → Discovered tables p a out (Err refusal.Missing) out
-  unfolding is_list discover_at bind
+  unfolding is_given discover_at bind
   in_missing z f = in_by (Err refusal.Missing) out z
       (λ t. follows_refused (discover_at (rows_of tables) p a) out refusal.Missing 14 [] (ap (λ o. bind o (λ y. discover (rows_of tables) p y)) (f t)) (λ A. refl))
       (free_kept out (Err refusal.Missing) refl)

@@ -5,7 +5,6 @@ use Rattle.tables.specs.Rows.{Rows}
 use Rattle.load.specs.Answers.{asked_adapter}
 use Rattle.tunnel.specs.Tunnels.{Tunnel, discover}
 use Rattle.tunnel.specs.Words.{tunnels_words}
-use Rattle.refusal.specs.declared.Refusal.{Refusal}
 
 -- 14, then the tunnels of adapter a of the device at place p
 unfoldable pub discover_at : Rows → ℕ → ℕ → Outcome (Option (List Tunnel))
@@ -22,7 +21,3 @@ output_by (refused n vs) old = old
 output_by (value None) old = old
 output_by (value (Some ts)) old = cond (ltb (length old) (length (tunnels_words ts))) old (tunnels_words ts ++ drop (length (tunnels_words ts)) old)
 
-unfoldable pub is_list : Result (Option ℕ) Refusal → Bool
-is_list (Ok (Some n)) = true
-is_list (Ok None) = false
-is_list (Err r) = false

@@ -1,8 +1,8 @@
 -- Discovery on tables. Assumes nothing.
 use Rattle.std.specs.Prelude.{ℕ, ◌≤◌, ◌≡◌, false, List, length, drop, None, Ok, Option, Result, Some}
 use Rattle.refusal.specs.Outcome.{bind}
-use Rattle.discovery.specs.Answers.{discover_at, in_room, output_by, is_list}
-use Rattle.refusal.specs.Refusal.{outcome}
+use Rattle.discovery.specs.Answers.{discover_at, in_room, output_by}
+use Rattle.refusal.specs.Refusal.{outcome, IsMet, is_given}
 use Rattle.refusal.specs.declared.Refusal.{Refusal}
 use Rattle.tables.specs.declared.Tables.{Tables}
 use Rattle.tables.specs.Tables.{Sized, Tabled, rows_of}
@@ -13,7 +13,9 @@ pub record Discovered (tables : Tables) (p a : ℕ) (output : List ℕ) (r : Res
   pub writes : Sized tables → Tabled tables → output' ≡ output_by (discover_at (rows_of tables) p a) output
   -- larger tables have no tunnels
   pub larger : (Sized tables → ⊥) → r ≡ (Ok None)
-  pub kept : is_list r ≡ false → output' ≡ output
+  -- on any tables, it is refused as a walk is, or for want of room
+  pub met : (m : Refusal) → r ≡ Err m → IsMet m
+  pub kept : is_given r ≡ false → output' ≡ output
   pub fits : (n : ℕ) → r ≡ Ok (Some n) → n ≤ length output
   pub tail : (n : ℕ) → r ≡ Ok (Some n) → drop n output' ≡ drop n output
   pub long : length output' ≡ length output

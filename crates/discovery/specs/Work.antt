@@ -6,7 +6,7 @@ use Rattle.refusal.specs.Outcome.{Outcome, value, bind}
 use Rattle.usb4.specs.declared.TunnelType.TheVariants as tunnel_type
 use Rattle.tables.specs.Rows.{EntryRow, Rows, entry_in}
 use Rattle.tables.specs.Packed.{entries_in}
-use Rattle.refusal.specs.Refusal.{refused_by}
+use Rattle.refusal.specs.Refusal.{is_given, IsMet, outcome, walk_outcome}
 use Rattle.walk.specs.Rule.{walk_from}
 use Rattle.path.specs.Words.{path_words}
 use Rattle.receive.specs.Receive.{Receive, receive}
@@ -14,13 +14,15 @@ use Rattle.receive.specs.Tables.{Said, received_outcome, hops_by, note_stand, wa
 use Rattle.receive.specs.declared.Received.{Received}
 use Rattle.tunnel.specs.Tunnels.{Path, Tunnel, down_and_up, display_port, one_dma, rings, or_none, alone}
 use Rattle.tunnel.specs.Words.{tunnels_words}
-use Rattle.tunnel.specs.Plans.{From, start_of, plan_if, planned_outcome}
+use Rattle.tunnel.specs.Plans.{start_of, plan_if, planned_outcome}
 use Rattle.tunnel.specs.declared.Plan.{Plan as Planned}
-use Rattle.discovery.specs.Answers.{in_room, output_by, is_list}
-use Rattle.refusal.specs.Refusal.{outcome}
+use Rattle.discovery.specs.Answers.{in_room, output_by}
+use Rattle.refusal.specs.Refusal.{outcome, is_given, IsMet, walk_outcome}
 use Rattle.refusal.specs.declared.Refusal.{Refusal}
 use Rattle.tables.specs.declared.Tables.{Tables}
 use Rattle.tables.specs.Tables.{Sized, Tabled, rows_of}
+use Rattle.tunnel.specs.declared.Start.{Start}
+use Rattle.refusal.specs.declared.WalkError.{WalkError}
 
 -- words put from a place on, and the place after them
 pub record Wrote (at : ℕ) (ws out : List ℕ) (r : ℕ) (out' : List ℕ) : Type 0 where
@@ -28,7 +30,7 @@ pub record Wrote (at : ℕ) (ws out : List ℕ) (r : ℕ) (out' : List ℕ) : Ty
   pub whole : out' ≡ take at out ++ ws ++ drop r out
 
 -- the path from a start, where there is one
-pub record PathPut (tables : Tables) (f : From) (at : ℕ) (out : List ℕ) (r : ℕ) (out' : List ℕ) : Type 0 where
+pub record PathPut (tables : Tables) (f : Start) (at : ℕ) (out : List ℕ) (r : ℕ) (out' : List ℕ) : Type 0 where
   pub within : r ≤ length out
   pub long : length out' ≡ length out
   pub words : Sized tables → Tabled tables → (hs : List EntryRow) → walk_from (rows_of tables) f.stand ≡ value (Some hs) → at + length (path_words f.name hs) ≤ length out → Wrote at (path_words f.name hs) out r out'
@@ -43,10 +45,10 @@ Walks x None = 0 ≤ 0
 Walks x (Some t) = AllWalk x t.paths
 
 -- the tunnel that is planned, if there is one
-pub record PlanPut (tables : Tables) (plan : Result (Option Planned) Refusal) (at : ℕ) (out : List ℕ) (r : ℕ) (out' : List ℕ) : Type 0 where
+pub record PlanPut (tables : Tables) (plan : Option Planned) (at : ℕ) (out : List ℕ) (r : ℕ) (out' : List ℕ) : Type 0 where
   pub within : r ≤ length out
   pub long : length out' ≡ length out
-  pub words : Sized tables → Tabled tables → (o : Option Tunnel) → planned_outcome plan ≡ value (plan_if o) → Walks (rows_of tables) o → at + length (tunnels_words (option_to_list o)) ≤ length out
+  pub words : Sized tables → Tabled tables → (o : Option Tunnel) → planned_outcome (Ok plan) ≡ value (plan_if o) → Walks (rows_of tables) o → at + length (tunnels_words (option_to_list o)) ≤ length out
       → Wrote at (tunnels_words (option_to_list o)) out r out'
 
 -- the words of a plan; none has none
@@ -77,7 +79,7 @@ among v (x ∷ l) = eqb x v || among v l
 
 -- the HopIDs by which entries leave
 unfoldable pub out_hops : List ℕ → List ℕ
-out_hops tables.entries.now = map (λ (e : EntryRow). e.out_hop) (entries_in tables.entries.now)
+out_hops en = map (λ (e : EntryRow). e.out_hop) (entries_in en)
 
 -- the search for a receive path is not refused for a ring that no entry leaves by
 pub record Quiet (tables : Tables) : Type 0 where
@@ -101,12 +103,12 @@ pub record Resting (en : List ℕ) (p a : ℕ) (idle : List ℕ) : Type 0 where
   pub rests : (j : ℕ) → get_or idle (mark_of j) 0 ≡ 1 → Unasked en p a j
 
 -- how many notes of a search there are; 2,048 where a path is found, or there are that many
-pub record Known (found : Result Received Refusal) (noted r : ℕ) : Type 0 where
+pub record Known (found : Result Received WalkError) (noted r : ℕ) : Type 0 where
   pub within : r ≤ 2048
   pub known : r < 2048 → (r ≡ noted) × (is_path found ≡ false)
 
 -- fewer than 2,048 notes, with what the search came to, tell of all rings
-pub record Told (tables : Tables) (notes : List ℕ) (last : Result Received Refusal) : Type 0 where
+pub record Told (tables : Tables) (notes : List ℕ) (last : Result Received WalkError) : Type 0 where
   pub tells : length notes < 2048 → Foretells tables notes last
   pub few : hops_by last ≤ length tables.entries.now
 
@@ -116,13 +118,13 @@ pub record NoteFound (notes : List ℕ) (ring r : ℕ) : Type 0 where
   pub none_there : length notes ≤ r → (x : Rows) (rest : Outcome Said) → by_notes x ring notes rest ≡ rest
 
 -- what is said of a note's path
-pub record NotePath (tables : Tables) (ring note : ℕ) (r : Result Received Refusal) : Type 0 where
+pub record NotePath (tables : Tables) (ring note : ℕ) (r : Result Received WalkError) : Type 0 where
   pub says : Tabled tables → received_outcome ring r ≡ walk_said (rows_of tables) ring (note_stand note)
   pub few : hops_by r ≤ length tables.entries.now
 
 -- the words of the tunnels of k rings from 1 on
-pub record Tallies (tables : Tables) (p a k : ℕ) (r : Result ℕ Refusal) : Type 0 where
-  pub counts : Sized tables → Tabled tables → p < 65536 → outcome r ≡ bind (rings (rows_of tables) p a 1 k) (λ ts. value (length (tunnels_words ts)))
+pub record Tallies (tables : Tables) (p a k : ℕ) (r : Result ℕ WalkError) : Type 0 where
+  pub counts : Sized tables → Tabled tables → p < 65536 → walk_outcome r ≡ bind (rings (rows_of tables) p a 1 k) (λ ts. value (length (tunnels_words ts)))
 
 -- the words of the tunnels of k rings from 1 on stand at the front, where there is room for them
 pub record Drafted (tables : Tables) (p a k : ℕ) (draft : List ℕ) : Type 0 where
@@ -147,14 +149,15 @@ pub record Follows (o : Outcome (Option (List Tunnel))) (out : List ℕ) (r : Re
 
 -- what holds on any tables
 pub record Free (out : List ℕ) (r : Result (Option ℕ) Refusal) (out' : List ℕ) : Type 0 where
-  pub kept : is_list r ≡ false → out' ≡ out
+  pub met : (m : Refusal) → r ≡ Err m → IsMet m
+  pub kept : is_given r ≡ false → out' ≡ out
   pub fits : (n : ℕ) → r ≡ Ok (Some n) → n ≤ length out
   pub tail : (n : ℕ) → r ≡ Ok (Some n) → drop n out' ≡ drop n out
   pub long : length out' ≡ length out
 
 -- a plan's tunnel, whatever it is the plan of
-pub record OneAnswered (tables : Tables) (plan : Result (Option Planned) Refusal) (out : List ℕ) (r : Result (Option ℕ) Refusal) (out' : List ℕ) : Type 0 where
-  pub follows : Sized tables → Tabled tables → (o : Outcome (Option Tunnel)) → planned_outcome plan ≡ bind o (λ t. value (plan_if t)) → ((t : Option Tunnel) → o ≡ value t → Walks (rows_of tables) t) → Follows (bind o alone) out r out'
+pub record OneAnswered (tables : Tables) (plan : Option Planned) (out : List ℕ) (r : Result (Option ℕ) Refusal) (out' : List ℕ) : Type 0 where
+  pub follows : Sized tables → Tabled tables → (o : Outcome (Option Tunnel)) → planned_outcome (Ok plan) ≡ bind o (λ t. value (plan_if t)) → ((t : Option Tunnel) → o ≡ value t → Walks (rows_of tables) t) → Follows (bind o alone) out r out'
   pub free : Free out r out'
 
 -- what f discovers in rows, for a place that a key has room for

@@ -6,16 +6,17 @@ ghost use Rattle.usb4.specs.Numbers.{tunnel_number};
 ghost use Rattle.adapter.specs.Adapter.{facts_row, adapter_site};
 ghost use Rattle.receive.specs.Tables.{Receives};
 ghost use Rattle.tunnel.specs.Tunnels.{discover, one_dma};
-ghost use Rattle.tunnel.specs.Plans.{Plans, from_by, paths_by};
+ghost use Rattle.tunnel.specs.Plans.{Plans, paths_by};
 ghost use Rattle.discovery.specs.Tables.{Discovered};
 ghost use Rattle.discovery.specs.Work.{PathPut, PlanPut, Marked, Unmarked, Spared, Resting, Idle, Quiet, mark_of, Known, Told, NoteFound, NotePath, among, out_hops, Drafted, Tallies, RingPut, RingsPut, OneAnswered, Answered, ring_list, dma_by, tunnel_by, tally_of, rings_end};
 ghost use Rattle.refusal.specs.Refusal.{field_at};
 
 use adapter::Facts;
 use receive::{ReceivePath, Received};
-use refusal::{Fault, FieldError, Refusal, Site};
+use refusal::{Fault, FieldError, Refusal, Site, WalkError};
+use tables::{Stand, Tables};
 use tunnel::{Plan, Start};
-use usb4::TunnelType;
+use usb4::{AdapterType, State, TunnelType};
 
 // No survey loads to more.
 const MOST_ENTRIES: usize = 4096;
@@ -24,6 +25,16 @@ const MOST_DEVICES: usize = 4096;
 
 // So many notes of a search tell nothing of other rings; no search has more. It stands too for those of a search that found a path.
 const UNTOLD: usize = 2048;
+
+// The rings of a host interface, an adapter of the device at a place, with what the search for ring 65,535 noted and came to.
+#[derive(Clone, Copy)]
+struct Rings<'a> {
+    tables: Tables<'a>,
+    place: usize,
+    adapter: u8,
+    notes: &'a [u64],
+    last: Result<Received, WalkError>,
+}
 
 // The head word of a tunnel.
 fn tunnel_word(kind: TunnelType, closed: bool, paths: u8) -> u32
@@ -37,35 +48,18 @@ fn tunnel_word(kind: TunnelType, closed: bool, paths: u8) -> u32
 }
 
 // Writes a path from a place of the output on; the place after it.
-fn put_start(
-    tables: &Tables,
-    start: Start,
-    output: &mut [u32],
-    at: usize,
-) -> usize
+fn put_start(tables: &Tables, start: Start, output: &mut [u32], at: usize) -> usize
     requires { at ≤ length output.old }
-    ensures { PathPut tables.now (from_by start) at output.old result output.new }
+    ensures { PathPut tables.now start at output.old result output.new }
 {
-    let words = path::put_walk(
-        tables,
-        start.place,
-        start.adapter,
-        start.hop,
-        start.name,
-        &mut output[at..],
-    );
+    let words = path::put_walk(tables, start.stand, start.name, &mut output[at..]);
     at + words
 }
 
 // Writes a planned tunnel from a place of the output on; the place after it.
-fn put_plan(
-    tables: &Tables,
-    plan: Option<Plan>,
-    output: &mut [u32],
-    at: usize,
-) -> usize
+fn put_plan(tables: &Tables, plan: Option<Plan>, output: &mut [u32], at: usize) -> usize
     requires { (at ≤ length output.old) × (paths_by (Ok plan) ≤ 3) }
-    ensures { PlanPut tables.now (Ok plan) at output.old result output.new }
+    ensures { PlanPut tables.now plan at output.old result output.new }
 {
     let Some(p) = plan else {
         return at;
@@ -114,21 +108,19 @@ fn leaves_by(entries: &[u64], hop: u16) -> bool
     ensures { result ≡ among hop (out_hops entries.now) }
 {
     let wanted = hop as u64;
-    let mut i: usize = 0;
-    while i < entries.len() {
-        if entries[i] % 65536 == wanted {
+    for &entry in entries {
+        if entry % 65536 == wanted {
             return true;
         }
-        i += 1;
     }
     false
 }
 
 // Says yes only where the search for a receive path is not refused for a ring that no entry leaves by. It goes alike for all of these, so one is asked: 65,535, which no ring of a survey by our descriptions is.
-fn is_quiet(entries: &[u64], found: Result<Received, Refusal>) -> bool
-    ensures { (tables : Tables) → Receives entries.now tables 65535 found → result ≡ true → Quiet entries.now tables }
+fn is_quiet(tables: &Tables, found: Result<Received, WalkError>) -> bool
+    ensures { Receives tables.now 65535 found → result ≡ true → Quiet tables.now }
 {
-    if leaves_by(entries, 65535) {
+    if leaves_by(tables.entries, 65535) {
         return false;
     }
     match found {
@@ -176,32 +168,25 @@ fn unmark_all(entries: &[u64], place: usize, adapter: u8, idle: &mut [u8])
     ensures { Resting entries.now place adapter idle.new }
 {
     let owner = (place % 65536) as u64 * 256 + adapter as u64;
-    let mut i: usize = 0;
-    while i < entries.len() {
-        unmark_used(idle, entries[i], owner);
-        i += 1;
+    for &entry in entries {
+        unmark_used(idle, entry, owner);
     }
 }
 
 // The rings that are known to have no tunnel before each is asked, marked with 1.
-fn at_rest(
-    entries: &[u64],
-    place: usize,
-    adapter: u8,
-    found: Result<Received, Refusal>,
-) -> [u8; 2048]
-    ensures { (tables : Tables) → Receives entries.now tables 65535 found → Idle entries.now tables place adapter result }
+fn at_rest(rings: &Rings) -> [u8; 2048]
+    ensures { Receives rings.now.tables 65535 rings.now.last → Idle rings.now.tables rings.now.place rings.now.adapter result }
 {
-    if !is_quiet(entries, found) {
+    if !is_quiet(&rings.tables, rings.last) {
         return [0u8; 2048];
     }
     let mut idle = [1u8; 2048];
-    unmark_all(entries, place, adapter, &mut idle);
+    unmark_all(rings.tables.entries, rings.place, rings.adapter, &mut idle);
     idle
 }
 
 // How many notes of a search there are; `UNTOLD` where a path is found, or there are that many. As many as the search had room for tell nothing.
-fn known_notes(found: Result<Received, Refusal>, noted: usize) -> usize
+fn known_notes(found: Result<Received, WalkError>, noted: usize) -> usize
     ensures { Known found noted result }
 {
     if UNTOLD <= noted {
@@ -220,34 +205,29 @@ fn find_note(notes: &[u64], ring: u16) -> usize
     ensures { NoteFound notes.now ring result }
 {
     let wanted = ring as u64;
-    let mut i: usize = 0;
-    while i < notes.len() {
+    for i in 0..notes.len() {
         if notes[i] % 65536 == wanted {
             return i;
         }
-        i += 1;
     }
-    i
+    notes.len()
 }
 
 // The path of a note, which leaves by a ring.
-fn noted_path(
-    tables: &Tables,
-    note: u64,
-) -> Result<Received, Refusal>
+fn noted_path(tables: &Tables, note: u64) -> Result<Received, WalkError>
     ensures { (ring : ℕ) → NotePath tables.now ring note result }
 {
-    let place = (note / 1099511627776 % 65536) as usize;
-    let adapter = (note / 4294967296 % 256) as u8;
-    let hop = (note / 65536 % 65536) as u16;
-    let walked = walk::tally(tables, place, adapter, hop)?;
+    let start = Stand {
+        place: (note / 1099511627776 % 65536) as usize,
+        adapter: (note / 4294967296 % 256) as u8,
+        hop_id: (note / 65536 % 65536) as u16,
+    };
+    let walked = walk::tally(tables, start)?;
     let Some(w) = walked else {
         return Ok(Received::Nothing);
     };
     Ok(Received::Path(ReceivePath {
-        place,
-        adapter,
-        hop,
+        start,
         hops: w.hops,
         out_place: w.place,
         out_adapter: w.adapter,
@@ -255,41 +235,35 @@ fn noted_path(
 }
 
 // The receive path of a ring: by notes, where there are fewer than `UNTOLD`, with `last` for the rings that have none; else by a search.
-fn received_by(
-    tables: &Tables,
-    ring: u16,
-    notes: &[u64],
-    last: Result<Received, Refusal>,
-) -> Result<Received, Refusal>
-    requires { Told tables.now notes.now last }
-    ensures { Receives tables.now ring result }
+fn received_by(rings: &Rings, ring: u16) -> Result<Received, WalkError>
+    requires { Told rings.now.tables rings.now.notes.now rings.now.last }
+    ensures { Receives rings.now.tables ring result }
 {
+    let notes = rings.notes;
     if UNTOLD <= notes.len() {
-        let searched = receive::receive(tables, ring);
+        let searched = receive::receive::<64>(&rings.tables, ring);
         let found = searched.found;
         return found;
     }
     let i = find_note(notes, ring);
     if notes.len() <= i {
-        return last;
+        return rings.last;
     }
-    noted_path(tables, notes[i])
+    noted_path(&rings.tables, notes[i])
 }
 
 // A ring's tunnel.
-fn plan_ring(
-    tables: &Tables,
-    place: usize,
-    adapter: u8,
-    ring: u16,
-    notes: &[u64],
-    last: Result<Received, Refusal>,
-) -> Result<Option<Plan>, Refusal>
-    requires { Told tables.now notes.now last }
-    ensures { Plans tables.now place (λ x. one_dma x place adapter ring) result }
+fn plan_ring(rings: &Rings, ring: u16) -> Result<Option<Plan>, WalkError>
+    requires { Told rings.now.tables rings.now.notes.now rings.now.last }
+    ensures { Plans rings.now.tables rings.now.place (λ x. one_dma x rings.now.place rings.now.adapter ring) result }
 {
-    let r = received_by(tables, ring, notes, last);
-    tunnel::one_dma(tables, place, adapter, ring, r)
+    let received = received_by(rings, ring);
+    let stand = Stand {
+        place: rings.place,
+        adapter: rings.adapter,
+        hop_id: ring,
+    };
+    tunnel::one_dma(&rings.tables, stand, received)
 }
 
 // Marks a ring that needs no words, if it has a mark of its own.
@@ -307,35 +281,24 @@ fn mark(idle: &mut [u8; 2048], ring: u32, words: usize)
 
 // The words of the tunnels of rings 1 to `end`, which is left out; the rings that have none are marked, and the words are drafted as far as there is room.
 fn tally_rings(
-    tables: &Tables,
-    place: usize,
-    adapter: u8,
+    rings: &Rings,
     end: u32,
-    notes: &[u64],
-    last: Result<Received, Refusal>,
     idle: &mut [u8; 2048],
     draft: &mut [u32],
-) -> Result<usize, Refusal>
-    requires { (1 ≤ end) × (end ≤ 65536) × Idle tables.now place adapter idle.old × Told tables.now notes.now last }
-    ensures tallies { Tallies tables.now place adapter (end - 1) result × Idle tables.now place adapter idle.new }
-    ensures drafted { Drafted tables.now place adapter (end - 1) draft.new }
+) -> Result<usize, WalkError>
+    requires { (1 ≤ end) × (end ≤ 65536) × Idle rings.now.tables rings.now.place rings.now.adapter idle.old × Told rings.now.tables rings.now.notes.now rings.now.last }
+    ensures tallies { Tallies rings.now.tables rings.now.place rings.now.adapter (end - 1) result × Idle rings.now.tables rings.now.place rings.now.adapter idle.new }
+    ensures drafted { Drafted rings.now.tables rings.now.place rings.now.adapter (end - 1) draft.new }
 {
     let mut at: usize = 0;
     let mut need: usize = 0;
-    let mut ring: u32 = 1;
-    while ring < end {
-        if is_idle(idle, ring) {
-            ring += 1;
-        } else {
-            let r = ring as u16;
-            let plan = plan_ring(
-                tables, place, adapter, r, notes, last,
-            )?;
+    for ring in 1..end {
+        if !is_idle(idle, ring) {
+            let plan = plan_ring(rings, ring as u16)?;
             let words = tally_plan(plan);
             need += words;
             mark(idle, ring, words);
-            at = put_plan(tables, plan, draft, at);
-            ring += 1;
+            at = put_plan(&rings.tables, plan, draft, at);
         }
     }
     Ok(need)
@@ -350,93 +313,49 @@ fn is_idle(idle: &[u8; 2048], ring: u32) -> bool
 
 // Writes the tunnel of a ring from a place of the output on, unless the ring is marked; the place after it.
 fn put_ring(
-    tables: &Tables,
-    place: usize,
-    adapter: u8,
+    rings: &Rings,
     ring: u32,
-    notes: &[u64],
-    last: Result<Received, Refusal>,
     idle: &[u8; 2048],
     output: &mut [u32],
     at: usize,
 ) -> usize
-    requires { (ring < 65536) × (at ≤ length output.old) × Idle tables.now place adapter idle.now × Told tables.now notes.now last }
-    ensures { RingPut tables.now place adapter ring at output.old result output.new }
+    requires { (ring < 65536) × (at ≤ length output.old) × Idle rings.now.tables rings.now.place rings.now.adapter idle.now × Told rings.now.tables rings.now.notes.now rings.now.last }
+    ensures { RingPut rings.now.tables rings.now.place rings.now.adapter ring at output.old result output.new }
 {
     if is_idle(idle, ring) {
         return at;
     }
-    let r = ring as u16;
-    let Ok(plan) = plan_ring(
-        tables, place, adapter, r, notes, last,
-    ) else {
+    let Ok(plan) = plan_ring(rings, ring as u16) else {
         return at;
     };
-    put_plan(tables, plan, output, at)
+    put_plan(&rings.tables, plan, output, at)
 }
 
 // Writes the tunnels of rings 1 to `end`, which is left out, until the output is full.
-fn put_rings(
-    tables: &Tables,
-    place: usize,
-    adapter: u8,
-    end: u32,
-    notes: &[u64],
-    last: Result<Received, Refusal>,
-    idle: &[u8; 2048],
-    output: &mut [u32],
-)
-    requires { (1 ≤ end) × (end ≤ 65536) × Idle tables.now place adapter idle.now × Told tables.now notes.now last }
-    ensures { RingsPut tables.now place adapter (end - 1) output.old output.new }
+fn put_rings(rings: &Rings, end: u32, idle: &[u8; 2048], output: &mut [u32])
+    requires { (1 ≤ end) × (end ≤ 65536) × Idle rings.now.tables rings.now.place rings.now.adapter idle.now × Told rings.now.tables rings.now.notes.now rings.now.last }
+    ensures { RingsPut rings.now.tables rings.now.place rings.now.adapter (end - 1) output.old output.new }
 {
     let mut at: usize = 0;
-    let mut ring: u32 = 1;
-    while ring < end {
+    for ring in 1..end {
         if output.len() <= at {
             return;
         }
-        at = put_ring(
-            tables, place, adapter, ring, notes, last, idle, output, at,
-        );
-        ring += 1;
-    }
-}
-
-// Copies a list of words.
-fn copy(from: &[u32], to: &mut [u32])
-    requires { length from.now ≡ length to.old }
-    ensures { to.new ≡ from.now }
-{
-    let mut i: usize = 0;
-    while i < to.len() {
-        to[i] = from[i];
-        i += 1;
+        at = put_ring(rings, ring, idle, output, at);
     }
 }
 
 // Writes the tunnels of rings 1 to `end`, which is left out: as they were drafted, if there was room for them.
-fn put_tallied(
-    tables: &Tables,
-    place: usize,
-    adapter: u8,
-    end: u32,
-    notes: &[u64],
-    last: Result<Received, Refusal>,
-    idle: &[u8; 2048],
-    draft: &[u32],
-    output: &mut [u32],
-)
-    requires { (1 ≤ end) × (end ≤ 65536) × Idle tables.now place adapter idle.now × Drafted tables.now place adapter (end - 1) draft.now × Told tables.now notes.now last }
-    ensures { RingsPut tables.now place adapter (end - 1) output.old output.new }
+fn put_tallied(rings: &Rings, end: u32, idle: &[u8; 2048], draft: &[u32], output: &mut [u32])
+    requires { (1 ≤ end) × (end ≤ 65536) × Idle rings.now.tables rings.now.place rings.now.adapter idle.now × Drafted rings.now.tables rings.now.place rings.now.adapter (end - 1) draft.now × Told rings.now.tables rings.now.notes.now rings.now.last }
+    ensures { RingsPut rings.now.tables rings.now.place rings.now.adapter (end - 1) output.old output.new }
 {
     let need = output.len();
     if need <= draft.len() {
-        copy(&draft[..need], output);
+        output.copy_from_slice(&draft[..need]);
         return;
     }
-    put_rings(
-        tables, place, adapter, end, notes, last, idle, output,
-    );
+    put_rings(rings, end, idle, output);
 }
 
 // The tunnel of an adapter that has one at most.
@@ -446,7 +365,7 @@ fn put_one(
     output: &mut [u32],
 ) -> Result<Option<usize>, Refusal>
     requires { paths_by (Ok plan) ≤ 3 }
-    ensures { OneAnswered tables.now (Ok plan) output.old result output.new }
+    ensures { OneAnswered tables.now plan output.old result output.new }
 {
     let Some(p) = plan else {
         return Ok(None);
@@ -455,52 +374,27 @@ fn put_one(
     if output.len() < words {
         return Err(Refusal::Short(words));
     }
-    put_plan(
-        tables,
-        plan,
-        &mut output[..words],
-        0,
-    );
+    put_plan(tables, plan, &mut output[..words], 0);
     Ok(Some(words))
 }
 
 // The tunnels of rings 1 to `end`, which is left out, by what the search for ring 65,535 noted and came to.
 fn put_noted(
-    tables: &Tables,
-    place: usize,
-    adapter: u8,
+    rings: &Rings,
     end: u32,
-    notes: &[u64],
-    found: Result<Received, Refusal>,
     output: &mut [u32],
 ) -> Result<Option<usize>, Refusal>
-    requires { (1 ≤ end) × (end ≤ 65536) × Told tables.now notes.now found × Receives tables.now 65535 found }
-    ensures { Answered tables.now place (λ x. ring_list x place adapter (end - 1)) output.old result output.new }
+    requires { (1 ≤ end) × (end ≤ 65536) × Told rings.now.tables rings.now.notes.now rings.now.last × Receives rings.now.tables 65535 rings.now.last }
+    ensures { Answered rings.now.tables rings.now.place (λ x. ring_list x rings.now.place rings.now.adapter (end - 1)) output.old result output.new }
 {
-    let mut idle = at_rest(entries, place, adapter, found);
+    let mut idle = at_rest(rings);
     let mut draft = [0u32; 256]; // room for the words of 36 rings with two paths of one hop each
-    match tally_rings(
-        tables, place, adapter, end, notes, found, &mut idle, &mut draft,
-    ) {
-        Err(refusal) => Err(refusal),
-        Ok(need) => {
-            if output.len() < need {
-                return Err(Refusal::Short(need));
-            }
-            put_tallied(
-                tables,
-                place,
-                adapter,
-                end,
-                notes,
-                found,
-                &idle,
-                &draft,
-                &mut output[..need],
-            );
-            Ok(Some(need))
-        }
+    let need = tally_rings(rings, end, &mut idle, &mut draft)?;
+    if output.len() < need {
+        return Err(Refusal::Short(need));
     }
+    put_tallied(rings, end, &idle, &draft, &mut output[..need]);
+    Ok(Some(need))
 }
 
 // The same by a search with room for many notes: some 32 KiB of stack, which most surveys needn't pay for.
@@ -514,19 +408,18 @@ fn put_far(
     requires { (1 ≤ end) × (end ≤ 65536) }
     ensures { Answered tables.now place (λ x. ring_list x place adapter (end - 1)) output.old result output.new }
 {
-    let searched = receive::receive_far(tables, 65535);
-    let found = searched.found;
+    let searched = receive::receive::<2048>(tables, 65535);
+    let last = searched.found;
     let notes = searched.notes;
-    let count = known_notes(found, searched.noted);
-    put_noted(
-        tables,
+    let count = known_notes(last, searched.noted);
+    let rings = Rings {
+        tables: *tables,
         place,
         adapter,
-        end,
-        &notes[..count],
-        found,
-        output,
-    )
+        notes: &notes[..count],
+        last,
+    };
+    put_noted(&rings, end, output)
 }
 
 // The same by a search with room for few notes, if they tell of all rings; if not, or where `far` says so, by one with room for many. It calls itself before it calls `put_far`: the compiler puts no large room into the frame of a function that calls itself. Otherwise the room of `put_far` would be in the frame of every answer.
@@ -542,28 +435,23 @@ fn put_searched(
     ensures { Answered tables.now place (λ x. ring_list x place adapter (end - 1)) output.old result output.new }
 {
     if far {
-        return put_far(
-            tables, place, adapter, end, output,
-        );
+        return put_far(tables, place, adapter, end, output);
     }
-    let searched = receive::receive(tables, 65535);
-    let found = searched.found;
+    let searched = receive::receive::<64>(tables, 65535);
+    let last = searched.found;
     let notes = searched.notes;
-    let count = known_notes(found, searched.noted);
+    let count = known_notes(last, searched.noted);
     if 63 < count {
-        return put_searched(
-            tables, place, adapter, end, true, output,
-        );
+        return put_searched(tables, place, adapter, end, true, output);
     }
-    put_noted(
-        tables,
+    let rings = Rings {
+        tables: *tables,
         place,
         adapter,
-        end,
-        &notes[..count],
-        found,
-        output,
-    )
+        notes: &notes[..count],
+        last,
+    };
+    put_noted(&rings, end, output)
 }
 
 // The tunnels of the rings of a host interface.
@@ -581,34 +469,32 @@ fn put_dma(
         Err(_) => Err(Refusal::Fault(Fault::NoField(Site { place, adapter }))),
         Ok(Some(largest)) => {
             let end = rings_end(largest);
-            put_searched(
-                tables, place, adapter, end, false, output,
-            )
+            put_searched(tables, place, adapter, end, false, output)
         }
     }
 }
 
-// The tunnel of an adapter that has one at most, by the number of its kind.
+// The tunnel of an adapter that has one at most, by its kind.
 fn plan_of(
     tables: &Tables,
     place: usize,
     adapter: u8,
-    kind: u32,
-) -> Result<Option<Plan>, Refusal>
-    ensures { Plans tables.now place (λ x. tunnel_by x place adapter kind) result }
+    kind: AdapterType,
+) -> Result<Option<Plan>, WalkError>
+    ensures { Plans tables.now place (λ x. tunnel_by x place adapter (type_number kind)) result }
 {
-    if kind == 4 {
-        return tunnel::display_port(tables, place, adapter);
+    match kind {
+        AdapterType::DisplayPortIn => tunnel::display_port(tables, place, adapter),
+        AdapterType::PcieDown => {
+            let pcie = TunnelType::Pcie;
+            tunnel::down_and_up(tables, place, adapter, pcie, 5, 6)
+        }
+        AdapterType::Usb3Down => {
+            let usb3 = TunnelType::Usb3;
+            tunnel::down_and_up(tables, place, adapter, usb3, 0, 1)
+        }
+        _ => Ok(None),
     }
-    if kind == 6 {
-        let pcie = TunnelType::Pcie;
-        return tunnel::down_and_up(tables, place, adapter, pcie, 5, 6);
-    }
-    if kind == 8 {
-        let usb3 = TunnelType::Usb3;
-        return tunnel::down_and_up(tables, place, adapter, usb3, 0, 1);
-    }
-    Ok(None)
 }
 
 // By the adapter's kind; a disabled adapter or one of another kind has none, and a host interface is always enabled.
@@ -622,18 +508,15 @@ fn of_kind(
 {
     let number = facts.number;
     let kind = facts.kind;
-    let code = usb4::type_number(kind);
-    if code == 3 {
+    if let AdapterType::HostInterface = kind {
         let most = facts.max_hop;
-        return put_dma(
-            tables, place, number, most, output,
-        );
+        return put_dma(tables, place, number, most, output);
     }
     let state = facts.state;
-    if usb4::state_number(state) != 2 {
+    let State::Enabled = state else {
         return Ok(None);
-    }
-    let plan = plan_of(tables, place, number, code)?;
+    };
+    let plan = plan_of(tables, place, number, kind)?;
     put_one(tables, plan, output)
 }
 
@@ -646,16 +529,16 @@ pub fn discover_in(
 ) -> Result<Option<usize>, Refusal>
     ensures { Discovered tables.now place adapter output.old result output.new }
 {
-    if MOST_ENTRIES < entries.len() {
+    if MOST_ENTRIES < tables.entries.len() {
         return Ok(None);
     }
-    if MOST_DEVICES < routes.len() {
+    if MOST_DEVICES < tables.routes.len() {
         return Ok(None);
     }
     let Some(_) = routers::find_device(tables, place) else {
         return Err(Refusal::Missing);
     };
-    let Some(facts) = search::find_adapter(adapters, place, adapter) else {
+    let Some(facts) = search::find_adapter(tables.adapters, place, adapter) else {
         return Err(Refusal::Missing);
     };
     of_kind(tables, place, facts, output)

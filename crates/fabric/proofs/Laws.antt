@@ -28,6 +28,7 @@ use Rattle.fabric.specs.Links.{is_upstream, upstream_route_of, downstream_route_
 use Rattle.fabric.specs.Fabric.{Way, Way.on, Way.last, Way.dropped, stand_by, up_by, arrive_up, down_by, arrive_down, to_device, to_router, to_route, leads_from, leads_by, leads}
 use Rattle.tables.specs.declared.Tables.{Tables}
 use Rattle.tables.specs.Tables.{InOrder, rows_of}
+use Rattle.fabric.specs.Tables.{lane_leads}
 
 -- ---- routes
 
@@ -37,7 +38,7 @@ unfolding is_lane
 lane_kind k e = ap (λ (t : AdapterType). eqb (type_number t) 2) e
 
 pub no_lane_kind : (k : AdapterType) → (k ≡ type.Lane → ⊥) → is_lane k ≡ false
-unfolding is_lane type_number
+unfolding is_lane
 no_lane_kind type.Inactive n = refl
 no_lane_kind type.Lane n = absurd (n refl)
 no_lane_kind type.HostInterface n = refl

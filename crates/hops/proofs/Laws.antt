@@ -13,7 +13,7 @@ use Rattle.adapter.specs.Adapter.{AdapterRow}
 use Rattle.tables.specs.Rows.{EntryRow, Rows}
 use Rattle.load.specs.Loading.{loaded}
 use Rattle.load.specs.Answers.{asked_adapter}
-use Rattle.refusal.specs.Refusal.{refused_by}
+use Rattle.refusal.specs.Refusal.{refused_by, is_given}
 use Rattle.refusal.specs.declared.Refusal.{Refusal}
 use Rattle.orbit.specs.Walk.{hops_n}
 use Rattle.walk.specs.Walking.{walk_on}
@@ -23,13 +23,12 @@ use Rattle.path.specs.Words.{words_needed, with_path, output_by}
 use Rattle.path.proofs.Writing.{length_path_words, refused_as_lem}
 use Rattle.walks.specs.Calls.{single, path_answer, walk_answer, WalkDone}
 use Rattle.hops.specs.Records.{records_needed, with_records, records_by}
-use Rattle.path.specs.Put.{is_path}
 use Rattle.hops.specs.Calls.{hops_answer, HopsDone}
 use Rattle.hops.specs.Records.{filled}
 use Rattle.hops.specs.Work.{Ready}
 use Rattle.hops.specs.declared.Hop.{Hop}
 use Rattle.hops.proofs.Words.{Path, walk_path, filled_path}
-use Rattle.refusal.specs.Refusal.{outcome}
+use Rattle.refusal.specs.Refusal.{outcome, is_given}
 use Rattle.refusal.specs.declared.Refusal.TheVariants as refusal
 use Rattle.tables.specs.declared.Stand.{Stand}
 
@@ -144,7 +143,7 @@ path_of_lem t v s hs q = go (loaded t v) refl q
 
 module _ (t v : List ℕ) (s : Stand) (out : List ℕ) (r : Result (Option ℕ) Refusal) (out' : List ℕ) (w : WalkDone t v s out r out') where
   -- the rule follows from the equations
-  done : (records : List Hop) (a : Result (Option ℕ) Refusal) (records' : List Hop) → outcome a ≡ hops_answer t v s (length records) → records' ≡ records_by (path_answer t v s) records → (is_path a ≡ false → records' ≡ records) → HopsDone t v s records a records'
+  done : (records : List Hop) (a : Result (Option ℕ) Refusal) (records' : List Hop) → outcome a ≡ hops_answer t v s (length records) → records' ≡ records_by (path_answer t v s) records → (is_given a ≡ false → records' ≡ records) → HopsDone t v s records a records'
   unfolding hops_answer walk_answer records_by
   done records a records' q e k = record {
     answers = q;
@@ -180,7 +179,7 @@ module _ (t v : List ℕ) (s : Stand) (out : List ℕ) (r : Result (Option ℕ) 
         ∙ filled_path single path_told.0 out records (path_of_lem t v s path_told.0 path_told.1).fit (omega (arith, path_told.2))
 
     pub ready_path : (room : ℕ) → n ≤ room → Ready t v s room (Ok (Some n)) n out'
-    unfolding hops_answer is_path
+    unfolding hops_answer is_given
     ready_path room l = record {
       fits = l;
       done = λ records e. done records (Ok (Some n)) (filled out' n records)

@@ -8,9 +8,8 @@ use Rattle.load.specs.Answers.{asked_adapter}
 use Rattle.walk.specs.Rule.{in_room, WalkRule}
 use Rattle.walks.specs.Calls.{path_answer}
 use Rattle.hops.specs.Records.{records_needed, with_records, records_by}
-use Rattle.path.specs.Put.{is_path}
 use Rattle.hops.specs.declared.Hop.{Hop}
-use Rattle.refusal.specs.Refusal.{outcome}
+use Rattle.refusal.specs.Refusal.{outcome, is_given}
 use Rattle.refusal.specs.declared.Refusal.{Refusal}
 use Rattle.tables.specs.declared.Stand.{Stand}
 
@@ -22,7 +21,7 @@ pub record HopsDone (t v : List ℕ) (s : Stand) (records : List Hop) (r : Resul
   pub answers : outcome r ≡ hops_answer t v s (length records)
   pub writes : records' ≡ records_by (path_answer t v s) records
   -- what isn't a path is not written
-  pub kept : is_path r ≡ false → records' ≡ records
+  pub kept : is_given r ≡ false → records' ≡ records
   -- every accepted survey and every start in it
   pub walks : (x : Rows) (y : AdapterRow) → loaded t v ≡ value x → asked_adapter x s.place s.adapter ≡ value y
       → WalkRule x s records_needed (length records) (λ hs. records' ≡ with_records hs records) (outcome r)

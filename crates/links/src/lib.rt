@@ -8,9 +8,9 @@ ghost use Rattle.fabric.specs.Links.{upstream_route_of, downstream_route_of};
 ghost use Rattle.refusal.specs.Refusal.{fault_outcome};
 
 use adapter::Facts;
-use refusal::{Fault, Site};
-use usb4::AdapterType;
+use refusal::{Fault, FieldError, Site};
 use tables::DeviceFacts;
+use usb4::AdapterType;
 
 // The route of the router before an upstream lane; 11 at depth 0.
 pub fn upstream_route_of(place: usize, d: DeviceFacts, f: Facts) -> Result<Option<u64>, Fault>
@@ -22,8 +22,10 @@ pub fn upstream_route_of(place: usize, d: DeviceFacts, f: Facts) -> Result<Optio
     };
     let adapter = f.number;
     let upstream = d.upstream;
-    let Ok(Some(number)) = upstream else {
-        return Ok(None);
+    let number = match upstream {
+        Ok(Some(number)) => number,
+        Ok(None) => return Ok(None),
+        Err(FieldError::NoField) => return Ok(None),
     };
     if number != adapter {
         return Ok(None);

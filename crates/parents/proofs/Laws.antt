@@ -2,32 +2,30 @@
 use Prim.Native.Nat.{ℕ}
 use mathlib.Core.Path.{◌≡◌, refl, sym, ap, ◌∙◌}
 use Rattle.std.specs.Prelude.{Option, None, Some, Ok, Result}
-use mathlib.Core.List.{List}
-use native.Mathlib.Omega.{arith}
-use lib.ListN.{take, length-take}
-use borrow.Author.Tests.{eq-eqb, ne_eqb}
-use Rattle.refusal.specs.Outcome.{Outcome, value, bind}
+use mathlib.Core.List.{[]}
+use mathlib.Core.Bool.{cond}
+use lib.Dec.{eqb}
+use Rattle.usb4.specs.declared.Kind.{Kind}
+use Rattle.usb4.specs.declared.Kind.TheVariants as kind
+use Rattle.refusal.specs.Outcome.{Outcome, refused, value, bind}
 use Rattle.refusal.specs.declared.Fault.TheVariants.{NoParentRoute}
 use Rattle.usb4.specs.Numbers.{device_kind_number}
 use Rattle.route.specs.Route.{upstream_route}
 use Rattle.adapter.specs.Adapter.{AdapterRow, adapter_site}
 use Rattle.tables.specs.Rows.{Rows, DeviceRow, adapter_in, device_in, is_router}
-use Rattle.tables.specs.Packed.{entries_in, devices_in}
 use Rattle.tables.specs.Found.{device_row}
+use Rattle.tables.specs.Packed.{devices_in}
+use Rattle.tables.specs.Tables.{InOrder, Tabled, rows_of}
+use Rattle.tables.specs.declared.Tables.{Tables}
+use Rattle.load.specs.Answers.{asked_device, present}
+use Rattle.fabric.proofs.Laws.{device_fits}
+use Rattle.refusal.specs.Refusal.{fault_outcome, field_at}
+use Rattle.refusal.specs.declared.Fault.{Fault}
 use Rattle.tables.specs.declared.DeviceFacts.{DeviceFacts}
-use Rattle.load.specs.Loading.{loaded}
-use Rattle.load.specs.Answers.{loaded_rows, UsableBy, present}
-use Rattle.load.specs.declared.Loaded.{Loaded}
-use Rattle.load.proofs.Result.{usable}
-use Rattle.devices.proofs.Laws.{asked, place_fits}
 use Rattle.fabric.specs.Links.{route_or, upstream_route_of}
-use Rattle.parents.specs.Parents.{router_at, parent_by, upstream_in, router_parent, is_xdomain, xdomain_parent, parent_of, parent_answer}
+use Rattle.parents.specs.Parents.{router_at, parent_by, upstream_in, router_parent, is_xdomain, xdomain_parent, parent_of}
 use Rattle.parents.specs.Tables.{ParentIs}
-use Rattle.refusal.specs.Refusal.{outcome, field_at}
-use Rattle.refusal.specs.declared.Refusal.{Refusal}
 use Rattle.refusal.specs.declared.FieldError.{FieldError}
-use Rattle.load.specs.Answers.{counted}
-use Rattle.tables.specs.Tables.{rows_of}
 
 -- a router's, by what its upstream adapter is, by whether that adapter is there, and by the route before it
 module _ (x : Rows) (p : ℕ) (d : DeviceFacts) where
@@ -50,23 +48,42 @@ module _ (x : Rows) (p : ℕ) (d : DeviceRow) where
   unfolding xdomain_parent
   xdomain_by f e = rw e refl
 
-  pub of_router : (n : ℕ) → n ≡ device_kind_number d.kind → n ≡ 1 → router_parent x p d ≡ parent_of x p d
+  pub of_router : d.kind ≡ kind.Router → router_parent x p d ≡ parent_of x p d
   unfolding parent_of is_router
-  of_router n e f = rw (eq-eqb _ _ (sym e ∙ f)) refl
+  of_router e = rw e refl
 
-  pub of_xdomain : (n : ℕ) → n ≡ device_kind_number d.kind → n ≡ 2 → xdomain_parent x p d ≡ parent_of x p d
+  pub of_xdomain : d.kind ≡ kind.Xdomain → xdomain_parent x p d ≡ parent_of x p d
   unfolding parent_of is_router is_xdomain
-  of_xdomain n e f = rw (sym e ∙ f) refl
+  of_xdomain e = rw e refl
 
-  pub of_other : (n : ℕ) → n ≡ device_kind_number d.kind → (n ≡ 1 → ⊥) → (n ≡ 2 → ⊥) → value None ≡ parent_of x p d
+  pub of_other : (d.kind ≡ kind.Router → ⊥) → (d.kind ≡ kind.Xdomain → ⊥) → value None ≡ parent_of x p d
   unfolding parent_of is_router is_xdomain
-  of_other n e f g = rw (ne_eqb _ 1 (λ h. f (e ∙ h)), ne_eqb _ 2 (λ h. g (e ∙ h))) refl
+  of_other m n = go d.kind refl
+    where
+      parent_by_kind : Kind → Outcome (Option ℕ)
+      parent_by_kind k = cond (eqb (device_kind_number k) 1) (router_parent x p d) (cond (eqb (device_kind_number k) 2) (xdomain_parent x p d) (value None))
 
--- the parent of a device that was sought in the tables that loading answered: they are in order, and its place fits a key
-pub parent_asked : (l : Loaded) (t s : List ℕ) (e a d p : ℕ) (x : DeviceRow) (r : Result (Option ℕ) Refusal)
-    → loaded_rows l ≡ loaded t s → l.answer ≡ counted e a d → UsableBy l l.answer → Some x ≡ device_in (devices_in (take d l.routes) (take d l.marks)) p
-    → ParentIs (take a l.adapters) (take d l.routes) (take d l.marks) p (λ y. parent_of y p x) r → outcome r ≡ parent_answer t s p
-unfolding parent_answer present bind rows_of
-parent_asked l t s e a d p x r same g v f h = let u = usable l e a d g v in
-    h.is (record { adapters = u.adapter_order; devices = omega (arith, length-take d l.routes, u.devices) }) (place_fits l e a d p x u f) (entries_in (take e l.entries))
-    ∙ asked l t s e a d p (λ y z. parent_of y p z) (Some x) same g f
+      go : (k : Kind) → d.kind ≡ k → value None ≡ parent_by_kind k
+      go kind.Domain e = refl
+      go kind.Router e = absurd (m e)
+      go kind.Xdomain e = absurd (n e)
+      go kind.Retimer e = refl
+      go kind.Service e = refl
+      go kind.Unknown e = refl
+
+-- what is asked of a device that isn't there, and of one that is there, in tables in order
+none_by : {A : Type 0} (x : Rows) (p : ℕ) (f : DeviceRow → Outcome A) → None ≡ device_in x.devices p → refused 14 [] ≡ bind (asked_device x p) f
+unfolding asked_device present bind
+none_by x p f e = ap (λ (o : Option DeviceRow). bind (present o) f) e
+
+module _ (t : Tables) (p : ℕ) where
+  pub none_asked : None ≡ device_in (devices_in t.routes.now t.marks.now) p → refused 14 [] ≡ bind (asked_device (rows_of t) p) (λ d. parent_of (rows_of t) p d)
+  unfolding rows_of
+  none_asked e = none_by (rows_of t) p (λ d. parent_of (rows_of t) p d) e
+
+  pub parent_asked : (d : DeviceRow) → Tabled t → Some d ≡ device_in (devices_in t.routes.now t.marks.now) p → (r : Result (Option ℕ) Fault) → ParentIs t p (λ x. parent_of x p d) r
+      → fault_outcome r ≡ bind (asked_device (rows_of t) p) (λ d. parent_of (rows_of t) p d)
+  unfolding rows_of asked_device present bind
+  parent_asked d k e r h =
+      let o : InOrder t = record { adapters = k.adapter_order; devices = k.devices } in
+      h.is o (device_fits t p d o e) ∙ ap (λ (z : Option DeviceRow). bind (present z) (λ d. parent_of (rows_of t) p d)) e

@@ -1,12 +1,12 @@
 -- A device's parent, on tables. Assumes nothing.
-use Rattle.std.specs.Prelude.{ℕ, ◌<◌, ◌≡◌, List, Result, Option}
+use Rattle.std.specs.Prelude.{ℕ, ◌<◌, ◌≡◌, Result, Option}
 use Rattle.refusal.specs.Outcome.{Outcome}
-use Rattle.tables.specs.Rows.{EntryRow, Rows}
-use Rattle.refusal.specs.Refusal.{outcome}
-use Rattle.refusal.specs.declared.Refusal.{Refusal}
+use Rattle.tables.specs.Rows.{Rows}
+use Rattle.refusal.specs.Refusal.{fault_outcome}
+use Rattle.refusal.specs.declared.Fault.{Fault}
 use Rattle.tables.specs.declared.Tables.{Tables}
 use Rattle.tables.specs.Tables.{InOrder, rows_of}
 
--- In tables in order, for a place that a key has room for, it is what f says of their rows. In any others it is free.
-pub record ParentIs (tables : Tables) (p : ℕ) (f : Rows → Outcome (Option ℕ)) (r : Result (Option ℕ) Refusal) : Type 0 where
-  pub is : InOrder tables → p < 65536 → outcome r ≡ f (rows_of tables)
+-- In tables in order, for a place that a key has room for, it is what f says of their rows. In any others it is free, but that it is a fault.
+pub record ParentIs (tables : Tables) (p : ℕ) (f : Rows → Outcome (Option ℕ)) (r : Result (Option ℕ) Fault) : Type 0 where
+  pub is : InOrder tables → p < 65536 → fault_outcome r ≡ f (rows_of tables)

@@ -1,14 +1,12 @@
 // The parent of a device of a survey.
 #![tactic(auto)]
 
-ghost use Rattle.std.specs.Prelude.{ℕ, ◌≡◌, List};
-ghost use Rattle.refusal.specs.Outcome.{value};
-ghost use Rattle.tables.specs.Packed.{devices_in};
-ghost use Rattle.tables.specs.Rows.{EntryRow, router_from};
+ghost use Rattle.std.specs.Prelude.{◌≡◌};
 ghost use Rattle.tables.specs.Found.{device_row};
 ghost use Rattle.parents.specs.Parents.{router_parent, xdomain_parent, parent_of, parent_answer};
 ghost use Rattle.parents.specs.Tables.{ParentIs};
-ghost use Rattle.refusal.specs.Refusal.{outcome};
+ghost use Rattle.refusal.specs.Refusal.{fault_outcome, outcome};
+ghost use Rattle.tables.specs.Tables.{rows_of};
 
 use refusal::{Fault, FieldError, Refusal, Site};
 use tables::{DeviceFacts, Tables};
@@ -71,20 +69,7 @@ pub fn parent_from(
     ensures { outcome result ≡ parent_answer descriptions.now survey.now place }
 {
     let loaded = load::load(descriptions, survey);
-    let answer = loaded.answer;
-    let counts = answer?;
-    let devices = counts.devices;
-    let adapters = counts.adapters;
-    let routes = loaded.routes;
-    let marks = loaded.marks;
-    let found = routers::find_device(&routes[..devices], &marks[..devices], place);
-    let d = found.ok_or(Refusal::Missing)?;
-    let table = loaded.adapters;
-    parent_of(
-        &routes[..devices],
-        &marks[..devices],
-        &table[..adapters],
-        place,
-        d,
-    )
+    let tables = loaded.tables()?;
+    let d = routers::find_device(&tables, place).ok_or(Refusal::Missing)?;
+    Ok(parent_of(&tables, place, d)?)
 }

@@ -14,7 +14,7 @@ use Rattle.refusal.specs.Outcome.{Outcome, refused, value, bind}
 use Rattle.tables.specs.Rows.{EntryRow}
 use Rattle.tables.specs.Packed.{entry_word, entries_in}
 use Rattle.tables.proofs.Laws.{device_past_routes}
-use Rattle.refusal.specs.Refusal.{refused_by}
+use Rattle.refusal.specs.Refusal.{refused_by, is_given, IsMet, of_walk, outcome}
 use Rattle.load.specs.Loading.{valid_entries}
 use Rattle.refusal.specs.declared.Refusal.{Refusal}
 use Rattle.refusal.proofs.Laws.{refused_bind}
@@ -24,20 +24,22 @@ use Rattle.fabric.specs.Fabric.{leads}
 use Rattle.fabric.proofs.Laws.{leads_missing}
 use Rattle.walk.specs.Walking.{turn_by, walk_on, path_of}
 use Rattle.walk.specs.Rule.{settled, walk_from, in_room}
-use Rattle.walk.specs.Tables.{Leaving, leaves, leaving_of, leaving_by, tally_outcome, hops_by, is_path as is-path, Tallied}
+use Rattle.walk.specs.Tables.{Leaving, leaves, leaving_of, leaving_by, tally_outcome, hops_by, Tallied}
 use Rattle.path.specs.Words.{hops_words, path_words, words_needed, with_path, output_by}
 use Rattle.path.specs.Work.{walk_in, so_far, HopsPut}
-use Rattle.path.specs.Put.{is_path, Put, WalkPut}
+use Rattle.path.specs.Put.{Put, WalkPut}
 use Rattle.walk.proofs.Leading.{there_below}
 use Rattle.walk.proofs.Laws.{walk_ends, ranked, hopped, sound, rule}
 use Rattle.path.proofs.Writing.{refused_as_lem, length_path_words}
-use Rattle.refusal.specs.Refusal.{outcome}
+use Rattle.refusal.specs.Refusal.{outcome, is_given, IsMet, of_walk, refused_by}
 use Rattle.refusal.specs.declared.Refusal.TheVariants as refusal
 use Rattle.walk.specs.Tables.{walked_to}
 use Rattle.walk.specs.declared.Walked.{Walked}
 use Rattle.tables.specs.declared.Stand.{Stand}
 use Rattle.tables.specs.declared.Tables.{Tables}
 use Rattle.tables.specs.Tables.{Sized, Tabled, rows_of}
+use Rattle.refusal.specs.declared.WalkError.{WalkError}
+use mathlib.Core.Logic.{inl, inr}
 
 -- ---- the start of a path
 
@@ -121,13 +123,19 @@ leaves_some (value (Some [])) l e = absurd (let z : ◌≡◌ {A = ℕ} 0 1 = cc
 leaves_some (value (Some (h ∷ hs))) l e = (h ∷ hs, refl, cc)
 
 -- a path has a hop, and no more than there are entries
-pub hops_few : (tables : Tables) (s : Stand) (r : Result (Option Walked) Refusal) → Sized tables → Tallied tables s r → (n q a h : ℕ) → r ≡ walked_to n q a h → (0 < n) × (n ≤ length tables.entries.now) × (n ≤ 4096)
-unfolding hops_by is-path
+pub hops_few : (tables : Tables) (s : Stand) (r : Result (Option Walked) WalkError) → Sized tables → Tallied tables s r → (n q a h : ℕ) → r ≡ walked_to n q a h → (0 < n) × (n ≤ length tables.entries.now) × (n ≤ 4096)
+unfolding hops_by is_given
 hops_few tables s r z f n q a h e =
     let k : n ≤ length tables.entries.now = subst (λ w. hops_by w ≤ length tables.entries.now) e f.few in
-    (ltb-true 0 n (sym (subst (λ w. is-path w ≡ ltb 0 (hops_by w)) e f.one)), k, omega (arith, z.entries))
+    (ltb-true 0 n (sym (subst (λ w. is_given w ≡ ltb 0 (hops_by w)) e f.one)), k, omega (arith, z.entries))
 
 -- ---- what is answered
+
+none_err : {m : Refusal} → ◌≡◌ {A = Result (Option ℕ) Refusal} (Ok None) (Err m) → ⊥
+none_err e = absurd (let z : ◌≡◌ {A = ℕ} 0 1 = cc in omega arith)
+
+err_same : {a m : Refusal} → ◌≡◌ {A = Result (Option ℕ) Refusal} (Err a) (Err m) → m ≡ a
+err_same e = cc
 
 -- a number of hops is answered only where there is room
 wrote_path : (name n : ℕ) (hs : List EntryRow) (out out' : List ℕ) → value (Some n) ≡ bind (value (Some hs)) (in_room (words_needed name) (length out)) → out' ≡ output_by name (value (Some hs)) out → out' ≡ with_path name hs out
@@ -145,14 +153,15 @@ module _ (tables : Tables) (s : Stand) (name : ℕ) (out : List ℕ) where
   -- an answer and an output that follow the walk keep demand 3
   put_by : (a : Result (Option ℕ) Refusal) (out' : List ℕ)
       → (Sized tables → Tabled tables → s.place < 65536 → (outcome a ≡ bind whole_walk (in_room (words_needed name) (length out))) × (out' ≡ output_by name whole_walk out))
-      → (65535 < s.place → a ≡ (Ok None)) → ((Sized tables → ⊥) → a ≡ (Ok None)) → (is_path a ≡ false → out' ≡ out)
+      → (65535 < s.place → a ≡ (Ok None)) → ((Sized tables → ⊥) → a ≡ (Ok None)) → (is_given a ≡ false → out' ≡ out) → ((m : Refusal) → a ≡ Err m → IsMet m)
       → ((n : ℕ) → a ≡ Ok (Some n) → (0 < n) × (1 + 2 * n ≤ length out) × (drop (1 + 2 * n) out' ≡ drop (1 + 2 * n) out)) → length out' ≡ length out → Put tables s name out a out'
   unfolding rows_of
-  put_by a out' follows past larger kept path long = record {
+  put_by a out' follows past larger kept met path long = record {
     answers = λ z t l. (follows z t l).0;
     writes = λ z t l. (follows z t l).1;
     past = past;
     larger = larger;
+    met = met;
     kept = kept;
     fits = λ n e. let w = path n e in (w.0, w.1);
     tail = λ n e. (path n e).2;
@@ -165,35 +174,37 @@ module _ (tables : Tables) (s : Stand) (name : ℕ) (out : List ℕ) where
   }
 
   -- no path, and nothing is written
-  put_none : (a : Result (Option ℕ) Refusal) → is_path a ≡ false → (Sized tables → Tabled tables → s.place < 65536 → (outcome a ≡ bind whole_walk (in_room (words_needed name) (length out))) × (out ≡ output_by name whole_walk out))
-      → (65535 < s.place → a ≡ (Ok None)) → ((Sized tables → ⊥) → a ≡ (Ok None)) → Put tables s name out a out
-  unfolding is_path
-  put_none a b follows past larger = put_by a out follows past larger (λ p. refl) (λ n e. absurd (true≢false (sym (ap is_path e) ∙ b))) refl
+  put_none : (a : Result (Option ℕ) Refusal) → is_given a ≡ false → (Sized tables → Tabled tables → s.place < 65536 → (outcome a ≡ bind whole_walk (in_room (words_needed name) (length out))) × (out ≡ output_by name whole_walk out))
+      → (65535 < s.place → a ≡ (Ok None)) → ((Sized tables → ⊥) → a ≡ (Ok None)) → ((m : Refusal) → a ≡ Err m → IsMet m) → Put tables s name out a out
+  unfolding is_given
+  put_none a b follows past larger met = put_by a out follows past larger (λ p. refl) met (λ n e. absurd (true≢false (sym (ap is_given e) ∙ b))) refl
 
   -- tables larger than a survey's
   pub put_larger : (Sized tables → ⊥) → Put tables s name out (Ok None) out
-  unfolding is_path
-  put_larger n = put_none (Ok None) refl (λ z t l. absurd (n z)) (λ l. refl) (λ z. refl)
+  unfolding is_given
+  put_larger n = put_none (Ok None) refl (λ z t l. absurd (n z)) (λ l. refl) (λ z. refl) (λ m e. absurd (none_err e))
 
   -- the outcome put in
   by_outcome : (a : Result (Option ℕ) Refusal) (out' : List ℕ) (o : Outcome (Option (List EntryRow))) → whole_walk ≡ o → outcome a ≡ bind o (in_room (words_needed name) (length out)) → out' ≡ output_by name o out
       → (outcome a ≡ bind whole_walk (in_room (words_needed name) (length out))) × (out' ≡ output_by name whole_walk out)
   by_outcome a out' o e p q = (p ∙ ap (λ z. bind z (in_room (words_needed name) (length out))) (sym e), q ∙ ap (λ z. output_by name z out) (sym e))
 
-  module _ (r : Result (Option Walked) Refusal) (z : Sized tables) (f : Tallied tables s r) where
-    pub put_refused : (x : Refusal) → r ≡ Err x → Put tables s name out (Err x) out
-    unfolding output_by bind tally_outcome is_path
-    put_refused x e = put_none (Err x) refl
-        (λ y t l. let w = leaves_refused whole_walk x (sym (ap tally_outcome e) ∙ f.answers t l) in by_outcome (Err x) out (refused w.0 w.1) w.2 w.3 refl)
+  module _ (r : Result (Option Walked) WalkError) (z : Sized tables) (f : Tallied tables s r) where
+    pub put_refused : (x : WalkError) → r ≡ Err x → Put tables s name out (Err (of_walk x)) out
+    unfolding output_by bind tally_outcome is_given IsMet
+    put_refused x e = put_none (Err (of_walk x)) refl
+        (λ y t l. let w = leaves_refused whole_walk (of_walk x) (sym (ap tally_outcome e) ∙ f.answers t l) in by_outcome (Err (of_walk x)) out (refused w.0 w.1) w.2 w.3 refl)
         (λ l. absurd (let p = f.past l in let y : ◌≡◌ {A = ℕ} 0 1 = cc in omega arith))
         (λ n. absurd (n z))
+        (λ m g. inl (x, err_same g))
 
     pub put_absent : r ≡ (Ok None) → Put tables s name out (Ok None) out
-    unfolding output_by bind in_room tally_outcome is_path
+    unfolding output_by bind in_room tally_outcome is_given
     put_absent e = put_none (Ok None) refl
         (λ y t l. by_outcome (Ok None) out (value None) (leaves_none whole_walk (sym (ap tally_outcome e) ∙ f.answers t l) (λ q. let h = hopped (rows_of tables) s [] q in omega (arith, h.one, h.long))) refl refl)
         (λ l. refl)
         (λ n. refl)
+        (λ m g. absurd (none_err g))
 
     module _ (n q a h : ℕ) (e : r ≡ walked_to n q a h) where
       -- on tables as loading leaves them the number of hops is the path's
@@ -205,7 +216,7 @@ module _ (tables : Tables) (s : Stand) (name : ℕ) (out : List ℕ) where
       no_path_lem l = let p = f.past l in let y : ◌≡◌ {A = ℕ} 0 1 = cc in omega arith
 
       pub put_short : length out < 1 + 2 * n → Put tables s name out (Err (refusal.Short (1 + 2 * n))) out
-      unfolding output_by bind in_room is_path
+      unfolding output_by bind in_room is_given IsMet
       put_short k = put_none _ refl
           (λ y t l.
           let w = hops_are t l in
@@ -214,9 +225,10 @@ module _ (tables : Tables) (s : Stand) (name : ℕ) (out : List ℕ) where
           by_outcome (Err (refusal.Short (1 + 2 * n))) out (value (Some w.0)) w.1 (ap (λ x. refused 2 (x ∷ [])) m ∙ ap (λ x. cond x (refused 2 (words_needed name w.0 ∷ [])) (value (Some (length w.0)))) (sym b)) (ap (λ x. cond x out (with_path name w.0 out)) (sym b)))
           (λ l. absurd (no_path_lem l))
           (λ x. absurd (x z))
+          (λ m g. inr (1 + 2 * n, err_same g))
 
       pub put_whole : (S : List ℕ) (i : ℕ) → 1 + 2 * n ≤ length out → length S ≡ length (take (1 + 2 * n) out) → WalkPut tables s name (take (1 + 2 * n) out) i S → Put tables s name out (Ok (Some n)) (S ++ drop (1 + 2 * n) out)
-      unfolding output_by bind in_room is_path with_path
+      unfolding output_by bind in_room is_given with_path
       put_whole S i k m v = let few = hops_few tables s r z f n q a h e in put_by _ (S ++ drop (1 + 2 * n) out)
           (λ y t l.
           let w = hops_are t l in
@@ -229,5 +241,6 @@ module _ (tables : Tables) (s : Stand) (name : ℕ) (out : List ℕ) where
           (λ l. absurd (no_path_lem l))
           (λ x. absurd (x z))
           (λ p. absurd (true≢false p))
+          (λ m g. absurd (let y : ◌≡◌ {A = ℕ} 0 1 = cc in omega arith))
           (λ j x. subst (λ i. (0 < i) × (1 + 2 * i ≤ length out) × (drop (1 + 2 * i) (S ++ drop (1 + 2 * n) out) ≡ drop (1 + 2 * i) out)) (let y : n ≡ j = cc in y) (few.0, k, drop_at S (drop (1 + 2 * n) out) (1 + 2 * n) (m ∙ length-take-le (1 + 2 * n) out k)))
           (length_front out S (1 + 2 * n) m)

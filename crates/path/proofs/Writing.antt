@@ -12,7 +12,7 @@ use Rattle.refusal.specs.Outcome.{Outcome, refused, value, bind}
 use Rattle.tables.specs.Rows.{EntryRow}
 use Rattle.tables.specs.Packed.{entries_in}
 use Rattle.tables.specs.Found.{EntrySought, entry_found}
-use Rattle.refusal.specs.Refusal.{refused_by}
+use Rattle.refusal.specs.Refusal.{refused_by, of_walk}
 use Rattle.refusal.specs.declared.Refusal.{Refusal}
 use Rattle.refusal.proofs.Laws.{refused_bind}
 use Rattle.orbit.specs.Walk.{Turn.ends as comes-to, hops_n, EndsAfter}
@@ -30,6 +30,7 @@ use Rattle.fabric.specs.declared.Next.TheVariants as next
 use Rattle.tables.specs.declared.Stand.{Stand}
 use Rattle.tables.specs.declared.Tables.{Tables}
 use Rattle.tables.specs.Tables.{InOrder, Sized, Tabled, rows_of}
+use Rattle.refusal.specs.declared.WalkError.{WalkError}
 
 -- ---- words
 
@@ -75,12 +76,12 @@ refused_as_lem (refused k vs) r e = (k, vs, refl)
 refused_as_lem {A} (value a) r e = absurd (let z : refused 0 [] ≡ value a = subst (λ o. bind o (λ b. refused 0 []) ≡ o) e (refused_bind r (λ b. refused 0 [])) in let y : ◌≡◌ {A = ℕ} 0 1 = cc in omega arith)
 
 -- a hop that leads nowhere further ends the walk
-ends_here : (e : EntryRow) (r : Result Next Refusal) → ((q a : ℕ) → r ≡ Ok (next.On q a) → ⊥) → (z : End) × (turn_by e (next_outcome r) ≡ comes-to z)
+ends_here : (e : EntryRow) (r : Result Next WalkError) → ((q a : ℕ) → r ≡ Ok (next.On q a) → ⊥) → (z : End) × (turn_by e (next_outcome r) ≡ comes-to z)
 unfolding next_outcome turn_by
 ends_here e (Ok (next.On q a)) k = absurd (k q a refl)
 ends_here e (Ok next.Last) k = (path, refl)
 ends_here e (Ok next.Dropped) k = (no_path, refl)
-ends_here e (Err f) k = let w = refused_as_lem (refused_by f) f refl in (fault w.0 w.1, ap (turn_by e) w.2)
+ends_here e (Err f) k = let w = refused_as_lem (refused_by (of_walk f)) (of_walk f) refl in (fault w.0 w.1, ap (turn_by e) w.2)
 
 -- ---- the loop
 
@@ -177,10 +178,10 @@ module _ (tables : Tables) (s : Stand) (old : List ℕ) where
             (ap (λ z. z ∷ v ∷ []) (first (omega (arith, (k.wrote m y).there, y.sized.devices))) ∙ ap (λ z. (10 * 268435456 + p * 65536 + a * 256 + o) ∷ z ∷ []) second) (k.wrote m y).words
             ∙ ap (λ l. so_far (get_or old 0 0) l old) (sym (reach_hops (walk_in tables) s (k.wrote m y).reached (hop_here m y)))
 
-        module _ (t : Result Next Refusal) (l : LeadsTo tables (λ x. leads x p o) t) where
+        module _ (t : Result Next WalkError) (l : LeadsTo tables (λ x. leads x p o) t) where
           hop_turn : (m : ℕ) → Makes tables s old m → (walk_in tables).next (stood p a h) (row p a h o g) ≡ turn_by (row p a h o g) (next_outcome t)
           unfolding walk_in walk_on rows_of
-          hop_turn m y = ap (turn_by _) (sym (l.leads_to (in_order y.tabled) _))
+          hop_turn m y = ap (turn_by _) (sym (l.leads_to (in_order y.tabled)))
 
           pub kept_on : (q b : ℕ) → g < 65536 → t ≡ Ok (next.On q b) → Kept tables s old (i + 1) q b g out'
           unfolding next_outcome turn_by

@@ -5,16 +5,11 @@ use Rattle.tables.specs.Rows.{EntryRow, DeviceRow}
 use Rattle.load.specs.Answers.{asked_device}
 use Rattle.walk.specs.Rule.{walk_from, in_room, WalkRule}
 use Rattle.path.specs.Words.{words_needed, with_path, output_by}
-use Rattle.refusal.specs.Refusal.{outcome}
+use Rattle.refusal.specs.Refusal.{outcome, is_given, IsMet}
 use Rattle.refusal.specs.declared.Refusal.{Refusal}
 use Rattle.tables.specs.declared.Stand.{Stand}
 use Rattle.tables.specs.declared.Tables.{Tables}
 use Rattle.tables.specs.Tables.{Sized, Tabled, rows_of}
-
-unfoldable pub is_path : Result (Option ℕ) Refusal → Bool
-is_path (Ok (Some n)) = true
-is_path (Ok None) = false
-is_path (Err r) = false
 
 -- In tables in order it is how the walk ends, and its path. In any others it is free, but that there is room for a path that is answered, and that no other word is changed.
 pub record Put (tables : Tables) (s : Stand) (name : ℕ) (output : List ℕ) (r : Result (Option ℕ) Refusal) (output' : List ℕ) : Type 0 where
@@ -23,7 +18,9 @@ pub record Put (tables : Tables) (s : Stand) (name : ℕ) (output : List ℕ) (r
   pub past : 65535 < s.place → r ≡ (Ok None)
   -- larger tables have no path
   pub larger : (Sized tables → ⊥) → r ≡ (Ok None)
-  pub kept : is_path r ≡ false → output' ≡ output
+  -- on any tables, it is refused as a walk is, or for want of room
+  pub met : (m : Refusal) → r ≡ Err m → IsMet m
+  pub kept : is_given r ≡ false → output' ≡ output
   pub fits : (n : ℕ) → r ≡ Ok (Some n) → (0 < n) × (1 + 2 * n ≤ length output)
   pub tail : (n : ℕ) → r ≡ Ok (Some n) → drop (1 + 2 * n) output' ≡ drop (1 + 2 * n) output
   pub long : length output' ≡ length output

@@ -8,7 +8,7 @@ use Rattle.tables.specs.declared.Stand.{Stand}
 use Rattle.tables.specs.declared.Tables.{Tables}
 use Rattle.tables.specs.Tables.{Sized, Tabled, rows_of}
 
-unfoldable pub walk_in : List ℕ → List ℕ → List ℕ → List ℕ → Walk Stand EntryRow End
+unfoldable pub walk_in : Tables → Walk Stand EntryRow End
 walk_in tables = walk_on (rows_of tables)
 
 -- a head word and hops, in the output as it was

@@ -7,6 +7,7 @@ ghost use Rattle.path.specs.Work.{HopsPut};
 
 use fabric::Next;
 use refusal::Refusal;
+use tables::{Stand, Tables};
 
 // No survey loads to more.
 const MOST_ENTRIES: usize = 4096;
@@ -28,84 +29,63 @@ fn hop_word(place: usize, adapter: u8, out_adapter: u8) -> u32
 }
 
 // Writes the hops of a walk from the output's second word on, as far as there is room; how many.
-fn put_hops(
-    tables: &Tables,
-    place: usize,
-    adapter: u8,
-    hop: u16,
-    output: &mut [u32],
-) -> usize
+fn put_hops(tables: &Tables, stand: Stand, output: &mut [u32]) -> usize
     requires { 1 ≤ length output.old }
-    ensures { HopsPut tables.now (record { place = place; adapter = adapter; hop_id = hop }) output.old result output.new }
+    ensures { HopsPut tables.now stand output.old result output.new }
 {
     let room = (output.len() - 1) / 2;
-    let mut p = place;
-    let mut a = adapter;
-    let mut h = hop;
+    let mut s = stand;
     let mut i: usize = 0;
     while i < room {
-        let Some(entry) = search::find_entry(entries, p, a, h) else {
+        let Some(entry) = search::find_entry(tables.entries, s) else {
             return i;
         };
-        output[1 + 2 * i] = hop_word(p, a, entry.out_adapter);
-        output[2 + 2 * i] = (h as u32) * 65536 + entry.out_hop as u32;
+        output[1 + 2 * i] = hop_word(s.place, s.adapter, entry.out_adapter);
+        output[2 + 2 * i] = (s.hop_id as u32) * 65536 + entry.out_hop as u32;
         i += 1;
-        let Ok(next) = fabric::leads(tables, p, entry.out_adapter) else {
+        let Ok(next) = fabric::leads(tables, s.place, entry.out_adapter) else {
             return i;
         };
-        let Next::On {
-            place: q,
-            adapter: b,
-        } = next
-        else {
+        let Next::On { place, adapter } = next else {
             return i;
         };
-        p = q;
-        a = b;
-        h = entry.out_hop;
+        s = Stand {
+            place,
+            adapter,
+            hop_id: entry.out_hop,
+        };
     }
     i
 }
 
 // Writes a walk's hops, as far as there is room, as a path with a name; how many words. For a walk that is known to have a path: whether there is one is not looked at.
-pub fn put_walk(
-    tables: &Tables,
-    place: usize,
-    adapter: u8,
-    hop: u16,
-    name: u8,
-    output: &mut [u32],
-) -> usize
-    ensures { WalkPut tables.now (record { place = place; adapter = adapter; hop_id = hop }) name output.old result output.new }
+pub fn put_walk(tables: &Tables, stand: Stand, name: u8, output: &mut [u32]) -> usize
+    ensures { WalkPut tables.now stand name output.old result output.new }
 {
     if output.len() < 1 {
         return 0;
     }
-    let hops = put_hops(
-        tables, place, adapter, hop, output,
-    );
+    let hops = put_hops(tables, stand, output);
     output[0] = path_word(name, hops);
     1 + 2 * hops
 }
 
-// Writes the path of the walk from an adapter and HopID of the device at a place, with a name, and answers how many hops it has, or the words needed (2); nothing where there is none, or too little room, or where the tables are larger than a survey's.
+// Writes the path of the walk from a stand, with a name, and answers how many hops it has, or the words needed (2); nothing where there is none, or too little room, or where the tables are larger than a survey's.
 pub fn put_path(
     tables: &Tables,
-    place: usize,
-    adapter: u8,
-    hop: u16,
+    stand: Stand,
     name: u8,
     output: &mut [u32],
 ) -> Result<Option<usize>, Refusal>
-    ensures { Put tables.now (record { place = place; adapter = adapter; hop_id = hop }) name output.old result output.new }
+    ensures { Put tables.now stand name output.old result output.new }
 {
-    if MOST_ENTRIES < entries.len() {
+    if MOST_ENTRIES < tables.entries.len() {
         return Ok(None);
     }
-    if MOST_DEVICES < routes.len() {
+    if MOST_DEVICES < tables.routes.len() {
         return Ok(None);
     }
-    let walked = walk::tally(tables, place, adapter, hop)?;
+    let walked = walk::tally(tables, stand)?;
     let Some(path) = walked else {
         return Ok(None);
     };
@@ -113,13 +93,6 @@ pub fn put_path(
     if output.len() < need {
         return Err(Refusal::Short(need));
     }
-    put_walk(
-        tables,
-        place,
-        adapter,
-        hop,
-        name,
-        &mut output[..need],
-    );
+    put_walk(tables, stand, name, &mut output[..need]);
     Ok(Some(path.hops))
 }

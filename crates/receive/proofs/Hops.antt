@@ -10,9 +10,8 @@ use lib.ListN.{length, get_or}
 use borrow.Author.Tests.{eq-eqb, ne_eqb}
 use Rattle.refusal.specs.Outcome.{Outcome, refused, value, bind}
 use Rattle.tables.specs.Rows.{EntryRow, Rows, entry_in}
-use Rattle.refusal.specs.Refusal.{refused_by}
-use Rattle.refusal.specs.declared.Refusal.{Refusal}
-use Rattle.refusal.proofs.Laws.{refused_bind}
+use Rattle.refusal.specs.Refusal.{refused_by, of_walk}
+use Rattle.refusal.proofs.Laws.{walk_bind}
 use Rattle.orbit.specs.Walk.{Spot.stand, found, arrive, walk_n, hops_n}
 use Rattle.orbit.proofs.Orbit.{reach_start, reach_stops}
 use Rattle.walk.specs.Walking.{End, walk_on, path_of}
@@ -24,6 +23,7 @@ use Rattle.receive.specs.Receive.{at, Receive, Receive.received, Receive.nothing
 use Rattle.receive.specs.Tables.{Said.path, said_of}
 use Rattle.receive.specs.Work.{said, up_to}
 use Rattle.tables.specs.declared.Stand.{Stand}
+use Rattle.refusal.specs.declared.WalkError.{WalkError}
 
 -- ---- HopIDs without an entry
 
@@ -83,10 +83,10 @@ first_stand x s h hs e =
 
 module _ (ring : ℕ) (rest : Outcome Receive) where
   -- refused
-  pub walk_refused : (o : Outcome (Option (List EntryRow))) (r : Refusal) (after : Outcome Receive) → refused_by r ≡ bind o (λ v. value (leaves v)) → refused_by r ≡ said (bind (bind o (or_rest ring rest)) (or_next after))
+  pub walk_refused : (o : Outcome (Option (List EntryRow))) (r : WalkError) (after : Outcome Receive) → refused_by (of_walk r) ≡ bind o (λ v. value (leaves v)) → refused_by (of_walk r) ≡ said (bind (bind o (or_rest ring rest)) (or_next after))
   unfolding bind
-  walk_refused (refused k vs) r after e = sym (refused_bind {A = Option Leaving} r (λ v. refused 0 [])) ∙ ap (λ (z : Outcome (Option Leaving)). bind z (λ v. refused 0 [])) e
-  walk_refused (value v) r after e = absurd (let w = refused_as_lem (value (leaves v)) r e in let y : value (leaves v) ≡ refused w.0 w.1 = w.2 in let z : ◌≡◌ {A = ℕ} 0 1 = cc in omega arith)
+  walk_refused (refused k vs) r after e = sym (walk_bind {A = Option Leaving} r (λ v. refused 0 [])) ∙ ap (λ (z : Outcome (Option Leaving)). bind z (λ v. refused 0 [])) e
+  walk_refused (value v) r after e = absurd (let w = refused_as_lem (value (leaves v)) (of_walk r) e in let y : value (leaves v) ≡ refused w.0 w.1 = w.2 in let z : ◌≡◌ {A = ℕ} 0 1 = cc in omega arith)
 
   -- no path
   pub walk_absent : (o : Outcome (Option (List EntryRow))) → value None ≡ bind o (λ v. value (leaves v)) → bind o (or_rest ring rest) ≡ rest

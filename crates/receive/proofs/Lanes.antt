@@ -6,19 +6,23 @@ use mathlib.Core.List.{List}
 use Rattle.std.specs.Prelude.{Option, None, Some, Err, Ok, Result}
 use native.Mathlib.Omega.{arith}
 use Rattle.refusal.specs.Outcome.{Outcome, refused, value, bind}
+use lib.Dec.{eqb}
+use Rattle.usb4.specs.Numbers.{device_kind_number}
+use Rattle.usb4.specs.declared.Kind.{Kind}
+use Rattle.usb4.specs.declared.Kind.TheVariants as kind
 use Rattle.route.specs.Route.{downstream_adapter}
 use Rattle.adapter.specs.Adapter.{AdapterRow, min_hop}
 use Rattle.tables.specs.Rows.{EntryRow, DeviceRow, Rows, adapter_in, device_in}
-use Rattle.refusal.specs.Refusal.{refused_by}
-use Rattle.refusal.specs.declared.Refusal.{Refusal}
-use Rattle.refusal.proofs.Laws.{refused_bind}
+use Rattle.refusal.specs.Refusal.{fault_outcome, refusal_of}
+use Rattle.refusal.proofs.Laws.{fault_bind}
 use Rattle.fabric.proofs.Laws.{device_fits}
 use Rattle.parents.specs.Parents.{parent_of}
 use Rattle.receive.specs.Receive.{Lane, Lane.lane, Lane.passed, Lane.dropped, or_dropped, hops_of, beneath, under_router, under_parent, taken, lane_of}
 use Rattle.receive.specs.Work.{lane_by, lane_at}
-use Rattle.refusal.specs.Refusal.{outcome}
+use Rattle.refusal.specs.Refusal.{fault_outcome, refusal_of}
 use Rattle.tables.specs.declared.Tables.{Tables}
 use Rattle.tables.specs.Tables.{InOrder, rows_of}
+use Rattle.refusal.specs.declared.Fault.{Fault}
 
 -- ---- the HopIDs of an adapter
 
@@ -34,6 +38,14 @@ module _ (q : ℕ) (y : AdapterRow) where
       ∙ ap (λ (z : Option ℕ). or_dropped z (λ l. bind y.max_hop (λ m. or_dropped m (λ hi. value (lane q y.number l hi))))) e
 
 -- ---- a device's
+
+pub no_xdomain : (k : Kind) → (k ≡ kind.Xdomain → ⊥) → false ≡ eqb (device_kind_number k) 2
+no_xdomain kind.Domain n = refl
+no_xdomain kind.Router n = refl
+no_xdomain kind.Xdomain n = absurd (n refl)
+no_xdomain kind.Retimer n = refl
+no_xdomain kind.Service n = refl
+no_xdomain kind.Unknown n = refl
 
 -- no router, and the adapter beneath which it hangs
 pub no_router : (x : Rows) (d : DeviceRow) (q : ℕ) → None ≡ device_in x.devices q → value passed ≡ under_router x d q (device_in x.devices q)
@@ -61,20 +73,20 @@ module _ (x : Rows) (p : ℕ) (d : DeviceRow) (at : Some d ≡ device_in x.devic
   unfolding lane_at lane_by lane_of
   lane_taken e = ap (λ (b : Bool). cond b (bind (parent_of x p d) (under_parent x d)) (value passed)) (sym e) ∙ ap (lane_by x p) at
 
-  module _ (t : taken d ≡ true) (a : Result (Option ℕ) Refusal) (e : outcome a ≡ parent_of x p d) where
-    lane_by_lem : bind (outcome a) (under_parent x d) ≡ lane_at x p
+  module _ (t : taken d ≡ true) (a : Result (Option ℕ) Fault) (e : fault_outcome a ≡ parent_of x p d) where
+    lane_by_lem : bind (fault_outcome a) (under_parent x d) ≡ lane_at x p
     lane_by_lem = ap (λ (o : Outcome (Option ℕ)). bind o (under_parent x d)) e ∙ lane_taken t
 
-    pub lane_refused : (r : Refusal) → a ≡ Err r → refused_by r ≡ lane_at x p
-    lane_refused r g = sym (refused_bind r (under_parent x d)) ∙ ap (λ (b : Result (Option ℕ) Refusal). bind (outcome b) (under_parent x d)) (sym g) ∙ lane_by_lem
+    pub lane_refused : (r : Fault) → a ≡ Err r → refusal_of r ≡ lane_at x p
+    lane_refused r g = sym (fault_bind r (under_parent x d)) ∙ ap (λ (b : Result (Option ℕ) Fault). bind (fault_outcome b) (under_parent x d)) (sym g) ∙ lane_by_lem
 
     pub lane_alone : a ≡ (Ok None) → value passed ≡ lane_at x p
     unfolding bind under_parent
-    lane_alone g = ap (λ (b : Result (Option ℕ) Refusal). bind (outcome b) (under_parent x d)) (sym g) ∙ lane_by_lem
+    lane_alone g = ap (λ (b : Result (Option ℕ) Fault). bind (fault_outcome b) (under_parent x d)) (sym g) ∙ lane_by_lem
 
     pub lane_under : (q : ℕ) → a ≡ Ok (Some q) → {o : Outcome Lane} → o ≡ under_router x d q (device_in x.devices q) → o ≡ lane_at x p
     unfolding bind under_parent
-    lane_under q g f = f ∙ ap (λ (b : Result (Option ℕ) Refusal). bind (outcome b) (under_parent x d)) (sym g) ∙ lane_by_lem
+    lane_under q g f = f ∙ ap (λ (b : Result (Option ℕ) Fault). bind (fault_outcome b) (under_parent x d)) (sym g) ∙ lane_by_lem
 
 -- ---- there is a router
 

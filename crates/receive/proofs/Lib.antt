@@ -2,4 +2,3 @@ pub mod Lanes
 pub mod Hops
 pub mod Looking
 pub mod Search
-pub mod Result

@@ -11,7 +11,6 @@ use Rattle.refusal.specs.Outcome.{Outcome, value, bind}
 use Rattle.tables.specs.Rows.{EntryRow, entry_in}
 use Rattle.tables.specs.Packed.{entry_word, entries_in}
 use Rattle.tables.specs.Found.{entry_found}
-use Rattle.refusal.specs.declared.Refusal.{Refusal}
 use Rattle.search.specs.Ahead.{HopAhead}
 use Rattle.search.proofs.Laws.{past_hops}
 use Rattle.search.specs.declared.HopEntry.{HopEntry}
@@ -22,11 +21,11 @@ use Rattle.receive.specs.Tables.{Said.path, received_outcome, path_of, said_from
 use Rattle.receive.specs.Work.{said, up_to, Stepped, end_hops, Looked}
 use Rattle.receive.specs.declared.Step.TheVariants as step
 use Rattle.receive.proofs.Hops.{leap, over, first_walk, walk_refused, walk_absent, walk_other, walk_fits}
-use Rattle.search.specs.Ahead.{hop_entry}
 use Rattle.walk.specs.Tables.{walked_to}
 use Rattle.walk.specs.declared.Walked.{Walked}
 use Rattle.tables.specs.declared.Tables.{Tables}
 use Rattle.tables.specs.Tables.{Tabled, rows_of}
+use Rattle.refusal.specs.declared.WalkError.{WalkError}
 
 module _ (tables : Tables) (ring q n h hi : ℕ) where
   -- none is left
@@ -46,25 +45,28 @@ module _ (tables : Tables) (ring q n h hi : ℕ) where
     pub looked_over : u ≡ None → Looked tables ring q n h hi (Ok step.Over)
     looked_over e = looked_none (λ t l i a b. ahead.over l t.entry_order e i a)
 
-    module _ {k out x : ℕ} (e : u ≡ Some (hop_entry k out x)) where
+    module _ {y : HopEntry} (e : u ≡ Some y) where
+      abbrev k : ℕ
+      k = y.hop
+
       pub looked_past : hi < k → Looked tables ring q n h hi (Ok step.Over)
-      looked_past m = looked_none (λ t l i a b. ahead.first l t.entry_order k out x e i a (omega arith))
+      looked_past m = looked_none (λ t l i a b. ahead.first l t.entry_order y e i a (omega arith))
 
       -- a HopID has 16 bits
       narrow : k < 65536
       unfolding entry_word entry_found
-      narrow = let held = (ahead.found k out x e).held _ refl in omega (arith, ap (λ (r : EntryRow). r.in_hop) held.2)
+      narrow = let held = (ahead.found y e).held _ refl in omega (arith, ap (λ (r : EntryRow). r.in_hop) held.2)
 
       -- at the walk from the HopID that is next
-      module _ (below : k ≤ hi) {w : Result (Option Walked) Refusal} (onward : Onward tables q out x w) where
+      module _ (below : k ≤ hi) {w : Result (Option Walked) WalkError} (onward : Onward tables q y.out w) where
         tally : Tallied tables (record { place = q; adapter = n; hop_id = k }) w
-        tally = onward.ends n k (ahead.found k out x e)
+        tally = onward.ends n k (ahead.found y e)
 
         there : Tabled tables → q < 65536 → (v : ℕ) → up_to (rows_of tables) v q n h hi ≡ bind (walk_from (rows_of tables) (at q n k)) (or_rest v (up_to (rows_of tables) v q n (k + 1) hi))
         unfolding rows_of
-        there t l v = leap (rows_of tables) v q n h k hi (ahead.from k out x e) (omega arith) (ahead.first l t.entry_order k out x e) ∙ first_walk (rows_of tables) v q n k hi below
+        there t l v = leap (rows_of tables) v q n h k hi (ahead.from y e) (omega arith) (ahead.first l t.entry_order y e) ∙ first_walk (rows_of tables) v q n k hi below
 
-        come : (o : Result (Option Walked) Refusal) → w ≡ o → Tabled tables → q < 65536 → tally_outcome o ≡ bind (walk_from (rows_of tables) (at q n k)) (λ o. value (leaves o))
+        come : (o : Result (Option Walked) WalkError) → w ≡ o → Tabled tables → q < 65536 → tally_outcome o ≡ bind (walk_from (rows_of tables) (at q n k)) (λ o. value (leaves o))
         unfolding at
         come o g t l = ap tally_outcome (sym g) ∙ tally.answers t l
 
@@ -73,12 +75,12 @@ module _ (tables : Tables) (ring q n h hi : ℕ) where
         unfolding Stepped end_hops tally_outcome
         looked_absent g = record {
           stepped = λ t l v. there t l v ∙ walk_absent v _ _ (come (Ok None) g t l);
-          further = λ j f. let z : k + 1 ≡ j = cc in (omega (arith, ahead.from k out x e), omega (arith, narrow));
+          further = λ j f. let z : k + 1 ≡ j = cc in (omega (arith, ahead.from y e), omega (arith, narrow));
           passed = λ j o f. absurd (let z : ◌≡◌ {A = ℕ} 0 1 = cc in omega arith);
           few = omega arith;
         }
 
-        pub looked_refused : (r : Refusal) → w ≡ Err r → Looked tables ring q n h hi (Err r)
+        pub looked_refused : (r : WalkError) → w ≡ Err r → Looked tables ring q n h hi (Err r)
         unfolding tally_outcome Stepped end_hops
         looked_refused r g = record {
           stepped = λ t l v after. walk_refused v _ _ r after (come (Err r) g t l) ∙ ap (λ (o : Outcome Receive). said (bind o (or_next after))) (sym (there t l v));
@@ -111,11 +113,11 @@ module _ (tables : Tables) (ring q n h hi : ℕ) where
           looked_other f narrow-too = record {
             stepped = told;
             further = λ j i. absurd (let z : ◌≡◌ {A = ℕ} 0 1 = cc in omega arith);
-            passed = λ j i z. let y : k ≡ j = cc in let u : o ≡ i = cc in (omega (arith, ahead.from k out x e), omega (arith, narrow), omega arith, λ d. f (u ∙ d));
+            passed = λ j i z. let b : k ≡ j = cc in let u : o ≡ i = cc in (omega (arith, ahead.from y e), omega (arith, narrow), omega arith, λ d. f (u ∙ d));
             few = omega arith;
           }
 
-          pub looked_fits : o ≡ ring → Looked tables ring q n h hi (Ok (step.Fits (path_of q n k m p b)))
+          pub looked_fits : o ≡ ring → Looked tables ring q n h hi (Ok (step.Fits (path_of (at q n k) m p b)))
           unfolding tally_outcome Stepped end_hops received_outcome hops_of_walk
           looked_fits f = record {
             stepped = λ t l after.

@@ -16,8 +16,7 @@ use Rattle.refusal.specs.Outcome.{Outcome, value, bind}
 use Rattle.tables.specs.Rows.{DeviceRow, Rows, device_in}
 use Rattle.tables.specs.Packed.{entries_in}
 use Rattle.tables.proofs.Laws.{device_past_routes}
-use Rattle.refusal.specs.declared.Refusal.{Refusal}
-use Rattle.refusal.proofs.Laws.{refused_bind}
+use Rattle.refusal.proofs.Laws.{walk_bind}
 use Rattle.receive.specs.Receive.{at, Lane, lane_of, Receive, Receive.nothing, among_hops, at_lane, or_next, among_devices, receive}
 use Rattle.receive.specs.Tables.{Said, said_of, received_outcome, hops_by, note_stand, note_ring, walk_said, by_notes, is_path, Searches}
 use Rattle.receive.specs.Work.{lane_outcome, LaneIs, lane_by, lane_at, said, up_to, Stepped, end_hops, Looked, PutNote}
@@ -32,6 +31,7 @@ use Rattle.receive.proofs.Lanes.{lane_fits}
 use Rattle.tables.specs.declared.Stand.{Stand}
 use Rattle.tables.specs.declared.Tables.{Tables}
 use Rattle.tables.specs.Tables.{InOrder, Tabled, rows_of}
+use Rattle.refusal.specs.declared.WalkError.{WalkError}
 
 -- ---- the devices from a place on
 
@@ -157,7 +157,7 @@ pub record Among (tables : Tables) (ring i q n h hi : ℕ) (noted : ℕ) (notes 
 
 module _ (tables : Tables) (ring : ℕ) where
   -- what is answered is the rest of the search for each ring
-  ends : (a : Result Received Refusal) (ws : List ℕ) (noted : ℕ) (notes : List ℕ) → Written ring ws noted notes → hops_by a ≤ length tables.entries.now → (Tabled tables → (v : ℕ) → said (receive (rows_of tables) v) ≡ by_notes (rows_of tables) v ws (received_outcome v a))
+  ends : (a : Result Received WalkError) (ws : List ℕ) (noted : ℕ) (notes : List ℕ) → Written ring ws noted notes → hops_by a ≤ length tables.entries.now → (Tabled tables → (v : ℕ) → said (receive (rows_of tables) v) ≡ by_notes (rows_of tables) v ws (received_outcome v a))
       → Searches (length notes) tables ring a noted notes
   ends a ws noted notes w few whole = record {
     comes = record { answers = λ t. sym (whole t ring ∙ notes_none (rows_of tables) ring ws (received_outcome ring a) w.others); few = few };
@@ -166,7 +166,7 @@ module _ (tables : Tables) (ring : ℕ) where
   }
 
   -- the room is the list's length
-  pub in_room_lem : {room noted : ℕ} {a : Result Received Refusal} {notes : List ℕ} → Searches (length notes) tables ring a noted notes → length notes ≡ room → Searches room tables ring a noted notes
+  pub in_room_lem : {room noted : ℕ} {a : Result Received WalkError} {notes : List ℕ} → Searches (length notes) tables ring a noted notes → length notes ≡ room → Searches room tables ring a noted notes
   in_room_lem {noted = noted} {a = a} {notes = notes} s e = subst (λ (n : ℕ). Searches n tables ring a noted notes) e s
 
   pub seek_start : (notes : List ℕ) → Seeking tables ring 0 0 notes
@@ -180,24 +180,24 @@ module _ (tables : Tables) (ring : ℕ) where
         s.whole t v ∙ ap (λ (o : Outcome Receive). by_notes (rows_of tables) v s.ws (said o)) (left_past (rows_of tables) v i (device_past_routes 0 tables.routes.now tables.marks.now i l)))
 
     -- by the lane of the device at place i
-    module _ {u : Result LaneFound Refusal} (is : LaneIs tables (λ x. lane_at x i) u) where
-      lane_is : (f : Result LaneFound Refusal) → u ≡ f → Tabled tables → lane_outcome f ≡ lane_at (rows_of tables) i
+    module _ {u : Result LaneFound WalkError} (is : LaneIs tables (λ x. lane_at x i) u) where
+      lane_is : (f : Result LaneFound WalkError) → u ≡ f → Tabled tables → lane_outcome f ≡ lane_at (rows_of tables) i
       unfolding rows_of
       lane_is f e t = ap lane_outcome (sym e) ∙ is.is (in_order t)
 
-      seek_lane : (f : Result LaneFound Refusal) → u ≡ f → Tabled tables → (v : ℕ) → said (receive (rows_of tables) v) ≡ by_notes (rows_of tables) v s.ws (said (bind (bind (lane_outcome f) (at_lane (rows_of tables) v)) (or_next (left (rows_of tables) v (i + 1)))))
+      seek_lane : (f : Result LaneFound WalkError) → u ≡ f → Tabled tables → (v : ℕ) → said (receive (rows_of tables) v) ≡ by_notes (rows_of tables) v s.ws (said (bind (bind (lane_outcome f) (at_lane (rows_of tables) v)) (or_next (left (rows_of tables) v (i + 1)))))
       seek_lane f e t v =
           s.whole t v
           ∙ ap (λ (o : Outcome Receive). by_notes (rows_of tables) v s.ws (said o)) (left_step (rows_of tables) v i)
           ∙ ap (λ (o : Outcome Lane). by_notes (rows_of tables) v s.ws (said (bind (bind o (at_lane (rows_of tables) v)) (or_next (left (rows_of tables) v (i + 1)))))) (sym (lane_is f e t))
 
-      pub seek_refused : (a : Refusal) → u ≡ Err a → Searches (length notes) tables ring (Err a) noted notes
+      pub seek_refused : (a : WalkError) → u ≡ Err a → Searches (length notes) tables ring (Err a) noted notes
       unfolding received_outcome hops_by lane_outcome
       seek_refused a e = ends (Err a) s.ws noted notes s.written (omega arith) (λ t v.
           seek_lane (Err a) e t v
-          ∙ ap (λ (o : Outcome Receive). by_notes (rows_of tables) v s.ws (said (bind o (or_next (left (rows_of tables) v (i + 1)))))) (refused_bind a (at_lane (rows_of tables) v))
-          ∙ ap (λ (o : Outcome Receive). by_notes (rows_of tables) v s.ws (said o)) (refused_bind a (or_next (left (rows_of tables) v (i + 1))))
-          ∙ ap (λ (o : Outcome Said). by_notes (rows_of tables) v s.ws o) (refused_bind a (λ y. value (said_of y))))
+          ∙ ap (λ (o : Outcome Receive). by_notes (rows_of tables) v s.ws (said (bind o (or_next (left (rows_of tables) v (i + 1)))))) (walk_bind a (at_lane (rows_of tables) v))
+          ∙ ap (λ (o : Outcome Receive). by_notes (rows_of tables) v s.ws (said o)) (walk_bind a (or_next (left (rows_of tables) v (i + 1))))
+          ∙ ap (λ (o : Outcome Said). by_notes (rows_of tables) v s.ws o) (walk_bind a (λ y. value (said_of y))))
 
       pub seek_lost : u ≡ (Ok found.Dropped) → Searches (length notes) tables ring (Ok answer.Lost) noted notes
       unfolding received_outcome hops_by lane_outcome bind at_lane or_next said_of
@@ -231,8 +231,8 @@ module _ (tables : Tables) (ring : ℕ) where
     among_end l = among_none (λ t v. ap (among_hops (rows_of tables) v q n h) (let z : hi + 1 - h ≡ 0 = omega arith in z))
 
     -- by the look at the next of them
-    module _ {u : Result Step Refusal} (k : Looked tables ring q n h hi u) where
-      look : (f : Result Step Refusal) → u ≡ f → Tabled tables → Stepped (rows_of tables) ring q n h hi f
+    module _ {u : Result Step WalkError} (k : Looked tables ring q n h hi u) where
+      look : (f : Result Step WalkError) → u ≡ f → Tabled tables → Stepped (rows_of tables) ring q n h hi f
       look f e t = subst (Stepped (rows_of tables) ring q n h hi) e (k.stepped t (s.fits t))
 
       pub among_over : u ≡ (Ok step.Over) → Seeking tables ring (i + 1) noted notes
@@ -278,6 +278,6 @@ module _ (tables : Tables) (ring : ℕ) where
         tells = λ z l. absurd (true≢false z);
       }
 
-      pub among_refused : (a : Refusal) → u ≡ Err a → Searches (length notes) tables ring (Err a) noted notes
+      pub among_refused : (a : WalkError) → u ≡ Err a → Searches (length notes) tables ring (Err a) noted notes
       unfolding Stepped received_outcome hops_by
       among_refused a e = ends (Err a) s.ws noted notes s.written (omega arith) (λ t v. s.whole t v ∙ ap (λ (z : Outcome Said). by_notes (rows_of tables) v s.ws z) (sym (look (Err a) e t v _)))

@@ -11,15 +11,14 @@ ghost use Rattle.receive.specs.Work.{lane_outcome, LaneIs, lane_at, Looked, PutN
 ghost use Rattle.tables.specs.Tables.{Fits};
 
 use adapter::Facts;
-use refusal::{Fault, FieldError, Refusal, Site};
-use tables::DeviceFacts;
+use refusal::{Fault, FieldError, Site, WalkError};
+use tables::{DeviceFacts, Stand, Tables};
+use usb4::Kind;
 
 // A path by its start, its number of hops, and the place and adapter by which it leaves.
 #[derive(Clone, Copy)]
 pub struct ReceivePath {
-    pub place: usize,
-    pub adapter: u8,
-    pub hop: u16,
+    pub start: Stand,
     pub hops: usize,
     pub out_place: usize,
     pub out_adapter: u8,
@@ -46,26 +45,18 @@ pub enum LaneFound {
     Dropped,
 }
 
-// What a search comes to, and notes for the search of other rings: of a path that it passes the place, adapter and HopID from which it starts, and the HopID that it leaves by, in one word. `noted` is how many there are; 64 tell nothing.
+// What a search comes to, and notes for the search of other rings: of a path that it passes the place, adapter and HopID from which it starts, and the HopID that it leaves by, in one word. `noted` is how many there are; as many as there is room for tell nothing.
 #[derive(Drop)]
-pub struct Searched {
-    pub found: Result<Received, Refusal>,
+pub struct Searched<const ROOM: usize> {
+    pub found: Result<Received, WalkError>,
     pub noted: usize,
-    pub notes: [u64; 64],
-}
-
-// The same with room for 2,048 notes; 2,048 tell nothing.
-#[derive(Drop)]
-pub struct SearchedFar {
-    pub found: Result<Received, Refusal>,
-    pub noted: usize,
-    pub notes: [u64; 2048],
+    pub notes: [u64; ROOM],
 }
 
 // The same without the notes themselves.
 #[derive(Clone, Copy)]
 pub struct Sought {
-    pub found: Result<Received, Refusal>,
+    pub found: Result<Received, WalkError>,
     pub noted: usize,
 }
 
@@ -79,7 +70,7 @@ pub enum Step {
 }
 
 // The HopIDs of an adapter of the router at a place, or 6.
-fn hops_of(place: usize, f: Facts) -> Result<LaneFound, Refusal>
+fn hops_of(place: usize, f: Facts) -> Result<LaneFound, WalkError>
     ensures { lane_outcome result ≡ hops_of place (facts_row place f) }
 {
     let kind = f.kind;
@@ -89,7 +80,7 @@ fn hops_of(place: usize, f: Facts) -> Result<LaneFound, Refusal>
     let max_hop = f.max_hop;
     match max_hop {
         Ok(None) => Ok(LaneFound::Dropped),
-        Err(FieldError::NoField) => Err(Refusal::Fault(Fault::NoField(Site {
+        Err(FieldError::NoField) => Err(WalkError::Fault(Fault::NoField(Site {
             place,
             adapter: f.number,
         }))),
@@ -107,7 +98,7 @@ fn beneath(
     tables: &Tables,
     d: DeviceFacts,
     q: usize,
-) -> Result<LaneFound, Refusal>
+) -> Result<LaneFound, WalkError>
     ensures { (p : ℕ) → LaneIs tables.now (λ x. under_router x (device_row p d) q (device_in x.devices q)) result }
 {
     let Some(e) = routers::find_device(tables, q) else {
@@ -116,7 +107,7 @@ fn beneath(
     let Some(n) = route::downstream_adapter(e.domain, e.route, d.domain, d.route) else {
         return Ok(LaneFound::Passed);
     };
-    let Some(f) = search::find_adapter(adapters, q, n) else {
+    let Some(f) = search::find_adapter(tables.adapters, q, n) else {
         return Ok(LaneFound::Dropped);
     };
     hops_of(q, f)
@@ -127,14 +118,17 @@ fn taken(d: DeviceFacts) -> bool
     ensures { (p : ℕ) → result ≡ taken (device_row p d) }
 {
     let kind = d.kind;
-    usb4::kind_number(kind) == 2
+    match kind {
+        Kind::Xdomain => true,
+        _ => false,
+    }
 }
 
 // Where the receive paths of the device at a place come in: an xdomain's, at its parent.
 fn lane_of(
     tables: &Tables,
     place: usize,
-) -> Result<LaneFound, Refusal>
+) -> Result<LaneFound, WalkError>
     ensures { LaneIs tables.now (λ x. lane_at x place) result }
 {
     let Some(d) = routers::find_device(tables, place) else {
@@ -143,14 +137,13 @@ fn lane_of(
     if !taken(d) {
         return Ok(LaneFound::Passed);
     }
-    let parent = parents::parent_of(tables, place, d)?;
-    let Some(q) = parent else {
+    let Some(q) = parents::parent_of(tables, place, d)? else {
         return Ok(LaneFound::Passed);
     };
     beneath(tables, d, q)
 }
 
-// The next HopID from `hop` to `most` that has an entry: its path, if its last hop leaves by the ring.
+// The next HopID from `hop` to `most` that has an entry at an adapter of the device at a place: its path, if its last hop leaves by the ring.
 fn look_at(
     tables: &Tables,
     place: usize,
@@ -158,39 +151,41 @@ fn look_at(
     hop: u32,
     most: u32,
     ring: u16,
-) -> Result<Step, Refusal>
+) -> Result<Step, WalkError>
     ensures { Looked tables.now ring place adapter hop most result }
 {
     if 65535 < hop {
         return Ok(Step::Over);
     }
-    let Some(next) = search::next_hop(entries, place, adapter, hop as u16) else {
+    let from = Stand {
+        place,
+        adapter,
+        hop_id: hop as u16,
+    };
+    let Some(next) = search::next_hop(tables.entries, from) else {
         return Ok(Step::Over);
     };
-    let h = next.hop;
-    let at = h as u32;
+    let hop_id = next.hop;
+    let at = hop_id as u32;
     if most < at {
         return Ok(Step::Over);
     }
-    let walked = walk::onward(
-        tables,
-        place,
-        next.out_adapter,
-        next.out_hop,
-    )?;
+    let walked = walk::onward(tables, place, next.out)?;
     let Some(w) = walked else {
         return Ok(Step::On(at + 1));
     };
     if w.hop != ring {
         return Ok(Step::Past {
-            hop: h,
+            hop: hop_id,
             last: w.hop,
         });
     }
     Ok(Step::Fits(ReceivePath {
-        place,
-        adapter,
-        hop: h,
+        start: Stand {
+            place,
+            adapter,
+            hop_id,
+        },
         hops: w.hops,
         out_place: w.place,
         out_adapter: w.adapter,
@@ -217,26 +212,21 @@ fn put_note(notes: &mut [u64], noted: usize, word: u64) -> usize
 }
 
 // The first path that leaves by the ring, over the xdomains and the HopIDs of the adapters at which their paths come in. Those before it are noted.
-fn seek_path(
-    tables: &Tables,
-    ring: u16,
-    notes: &mut [u64],
-) -> Sought
+fn seek_path(tables: &Tables, ring: u16, notes: &mut [u64]) -> Sought
     ensures { Searches (length notes.new) tables.now ring result.found result.noted notes.new }
 {
     let mut noted: usize = 0;
-    let mut i: usize = 0;
-    while i < routes.len() {
+    for i in 0..tables.routes.len() {
         match lane_of(tables, i) {
-            Err(refusal) => {
-                let found = Err(refusal);
+            Err(error) => {
+                let found = Err(error);
                 return Sought { found, noted };
             }
             Ok(LaneFound::Dropped) => {
                 let found = Ok(Received::Lost);
                 return Sought { found, noted };
             }
-            Ok(LaneFound::Passed) => i += 1,
+            Ok(LaneFound::Passed) => continue,
             Ok(
                 LaneFound::At {
                     place,
@@ -247,9 +237,7 @@ fn seek_path(
             ) => {
                 let mut hop = least;
                 while hop <= most {
-                    match look_at(
-                        tables, place, adapter, hop, most, ring,
-                    ) {
+                    match look_at(tables, place, adapter, hop, most, ring) {
                         Ok(Step::On(next)) => hop = next,
                         Ok(Step::Past { hop: h, last }) => {
                             let word = note_word(place, adapter, h, last);
@@ -257,8 +245,8 @@ fn seek_path(
                             hop = h as u32 + 1;
                         }
                         Ok(Step::Over) => break,
-                        Err(refusal) => {
-                            let found = Err(refusal);
+                        Err(error) => {
+                            let found = Err(error);
                             return Sought { found, noted };
                         }
                         Ok(Step::Fits(path)) => {
@@ -267,7 +255,6 @@ fn seek_path(
                         }
                     }
                 }
-                i += 1;
             }
         }
     }
@@ -275,34 +262,14 @@ fn seek_path(
     Sought { found, noted }
 }
 
-// The receive path of a ring, and what is noted as it is sought.
-pub fn receive(
-    tables: &Tables,
-    ring: u16,
-) -> Searched
-    ensures { Searches 64 tables.now ring result.found result.noted result.notes }
+// The receive path of a ring, and what is noted as it is sought. Much room, 16 KiB for 2,048 notes, is for a search that passes many paths; one that passes few needn't pay for it.
+pub fn receive<const ROOM: usize>(tables: &Tables, ring: u16) -> Searched<ROOM>
+    ensures { Searches ROOM tables.now ring result.found result.noted result.notes }
 {
-    let mut notes = [0u64; 64];
+    let mut notes = [0u64; ROOM];
     let sought = seek_path(tables, ring, &mut notes);
     let found = sought.found;
     Searched {
-        found,
-        noted: sought.noted,
-        notes,
-    }
-}
-
-// The same with room for more notes. They are 16 KiB, which a search that passes few paths needn't pay for.
-pub fn receive_far(
-    tables: &Tables,
-    ring: u16,
-) -> SearchedFar
-    ensures { Searches 2048 tables.now ring result.found result.noted result.notes }
-{
-    let mut notes = [0u64; 2048];
-    let sought = seek_path(tables, ring, &mut notes);
-    let found = sought.found;
-    SearchedFar {
         found,
         noted: sought.noted,
         notes,

@@ -1,5 +1,5 @@
 -- Document 01, "When it says no": the number and the values of each refusal. Assumes nothing.
-use Rattle.std.specs.Prelude.{ℕ, List, [], ◌∷◌, Result, Ok, Err}
+use Rattle.std.specs.Prelude.{ℕ, List, [], ◌∷◌, Bool, true, false, ◌≡◌, ◌⊎◌, Option, None, Some, Result, Ok, Err}
 use Rattle.refusal.specs.Outcome.{Outcome, refused, value}
 use Rattle.refusal.specs.declared.Site.{Site}
 use Rattle.refusal.specs.declared.Fault.{Fault}
@@ -63,3 +63,13 @@ field_read = outcome_by (λ e. refused 6 [])
 -- the same at an adapter: 6 with its place
 abbrev pub field_at : {A : Type 0} → Site → Result A FieldError → Outcome A
 field_at s = outcome_by (λ e. refusal_of (NoField s))
+
+-- whether a call answers something, and not none or a refusal
+unfoldable pub is_given : {A E : Type 0} → Result (Option A) E → Bool
+is_given (Ok (Some a)) = true
+is_given (Ok None) = false
+is_given (Err e) = false
+
+-- what a call that writes what a walk or a discovery gives refuses: as the walk is refused, or 2
+unfoldable pub IsMet : Refusal → Type 0
+IsMet m = ((e : WalkError) × (m ≡ of_walk e)) ⊎ ((n : ℕ) × (m ≡ refusal.Short n))

@@ -7,6 +7,7 @@ ghost use Rattle.report.specs.Work.{Answered};
 ghost use Rattle.tables.specs.Tables.{Fits};
 
 use refusal::Refusal;
+use tables::Tables;
 
 // Result words that there is room for in each answer.
 pub const ANSWER_ROOM: usize = 16384;
@@ -19,16 +20,16 @@ const MOST_ADAPTERS: usize = 16384;
 const MOST_DEVICES: usize = 4096;
 
 // Whether tables are larger than any that a survey loads to.
-fn larger(entries: &[u64], adapters: &[u64], routes: &[u64]) -> bool
-    ensures { ((result ≡ false) → Fits entries.now adapters.now routes.now) × ((result ≡ true) → Fits entries.now adapters.now routes.now → ⊥) }
+fn larger(tables: &Tables) -> bool
+    ensures { ((result ≡ false) → Fits tables.now) × ((result ≡ true) → Fits tables.now → ⊥) }
 {
-    if MOST_ENTRIES < entries.len() {
+    if MOST_ENTRIES < tables.entries.len() {
         return true;
     }
-    if MOST_ADAPTERS < adapters.len() {
+    if MOST_ADAPTERS < tables.adapters.len() {
         return true;
     }
-    MOST_DEVICES < routes.len()
+    MOST_DEVICES < tables.routes.len()
 }
 
 // The result words of the adapter at an index of the table.
@@ -37,10 +38,10 @@ fn answer_at(
     index: usize,
     words: &mut [u32],
 ) -> Result<usize, Refusal>
-    requires { (index < length adapters.now) × (length words.old ≡ 16384) }
+    requires { (index < length tables.now.adapters.now) × (length words.old ≡ 16384) }
     ensures { Answered tables.now index result words.new }
 {
-    let word = adapters[index];
+    let word = tables.adapters[index];
     let place = (word / 281474976710656) as usize;
     let number = (word / 1099511627776 % 256) as u8;
     let found = discovery::discover_in(tables, place, number, words);
@@ -54,12 +55,12 @@ pub fn try_all(
 ) -> Result<usize, Refusal>
     ensures { Tries tables.now result }
 {
-    if larger(entries, adapters, routes) {
+    if larger(tables) {
         return Ok(0);
     }
     let mut words = [0u32; ANSWER_ROOM];
     let mut total: usize = 0;
-    for index in 0..adapters.len() {
+    for index in 0..tables.adapters.len() {
         let n = answer_at(tables, index, &mut words)?;
         total += printed::tunnels(&words[..n]);
     }
@@ -74,10 +75,10 @@ pub fn put_page(
 ) -> Result<Result<usize, Refusal>, Refusal>
     ensures { Paged tables.now index output.old result output.new }
 {
-    if larger(entries, adapters, routes) {
+    if larger(tables) {
         return Ok(Ok(0));
     }
-    if adapters.len() <= index {
+    if tables.adapters.len() <= index {
         return Ok(Ok(0));
     }
     let mut words = [0u32; ANSWER_ROOM];

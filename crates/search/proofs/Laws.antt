@@ -4,7 +4,7 @@ use mathlib.Core.Bool.{Bool, true, false, ◌&&◌}
 use mathlib.Core.Path.{◌≡◌, refl, sym, ap, subst}
 use mathlib.Core.List.{List, [], ◌∷◌}
 use Rattle.std.specs.Prelude.{Option, None, Some}
-use Rattle.std.proofs.lemmas.Option.{none-some}
+use Rattle.std.proofs.lemmas.Option.{none-some, same_Some}
 use native.Mathlib.Omega.{arith}
 use native.Mathlib.Decide.{dec_lt}
 use lib.Dec.{eqb}
@@ -17,26 +17,11 @@ use Rattle.tables.proofs.Laws.{key_of, entry_missing, entry_found_lem}
 use Rattle.search.specs.Ahead.{HopAhead}
 use Rattle.search.specs.declared.HopEntry.{HopEntry}
 use Rattle.adapter.specs.Paths.{entry_out}
-use Rattle.search.specs.Ahead.{hop_entry}
 
 -- what is found, if it is from h on and has its entry
 Ahead : List ℕ → ℕ → ℕ → ℕ → Option HopEntry → Type 0
-Ahead t p a h (Some e) = (h ≤ e.hop) × EntrySought t p a e.hop (Some (entry_out e.out_adapter e.out_hop))
+Ahead t p a h (Some e) = (h ≤ e.hop) × EntrySought t p a e.hop (Some e.out)
 Ahead t p a h None = Unit {0}
-
-hop_same : {i o x k o' x' : ℕ} → Some (hop_entry i o x) ≡ Some (hop_entry k o' x') → i ≡ k
-hop_same e = ap number e
-  where
-    number : Option HopEntry → ℕ
-    number (Some e) = e.hop
-    number None = 0
-
-no_hop : {k o x : ℕ} → None ≡ Some (hop_entry k o x) → ⊥
-no_hop {k} e = none-some k (ap number e)
-  where
-    number : Option HopEntry → Option ℕ
-    number (Some e) = Some e.hop
-    number None = None
 
 and_false : (x : Bool) → (x && false) ≡ false
 and_false true = refl
@@ -49,7 +34,7 @@ past_hops [] p a j l = refl
 past_hops (w ∷ t) p a j l = rw (ne_eqb (w / 16777216 % 65536) j (λ e. omega arith), and_false (eqb (w / 281474976710656) p && eqb (w / 1099511627776 % 256) a)) (past_hops t p a j l)
 
 pub hop_past : (t : List ℕ) (p a h : ℕ) → 65535 < p → HopAhead t p a h None
-hop_past t p a h l = record { first = λ q s. absurd (omega arith); over = λ q s. absurd (omega arith); past = λ q. refl; from = λ k o x e. absurd (no_hop e); found = λ k o x e. absurd (no_hop e) }
+hop_past t p a h l = record { first = λ q s. absurd (omega arith); over = λ q s. absurd (omega arith); past = λ q. refl; from = λ e q. absurd (none-some e q); found = λ e q. absurd (none-some e q) }
 
 -- the boundary of a HopID is that of each one after it, up to the key that stands there
 module _ (t : List ℕ) (p a h r : ℕ) (lp : p < 65536) (la : a < 256) (b : Boundary t (((p * 256 + a) * 65536 + h) * 16777216) r) where
@@ -62,7 +47,7 @@ module _ (t : List ℕ) (p a h r : ℕ) (lp : p < 65536) (la : a < 256) (b : Bou
   skipped j s l m n = sym ((entry_missing t p a j r lp la m (later j l (λ q. omega (arith, n q))) (λ q e. omega (arith, n q))).first lp s)
 
   pub hop_over : (r < length t → get_or t r 0 / 1099511627776 ≡ p * 256 + a → ⊥) → HopAhead t p a h None
-  hop_over n = record { first = λ q s k o x e. absurd (no_hop e); over = λ q s e. none_from s; past = λ q. refl; from = λ k o x e. absurd (no_hop e); found = λ k o x e. absurd (no_hop e) }
+  hop_over n = record { first = λ q s e g. absurd (none-some e g); over = λ q s e. none_from s; past = λ q. refl; from = λ e q. absurd (none-some e q); found = λ e q. absurd (none-some e q) }
     where
       none_from : Sorted entry_unit t → (j : ℕ) → h ≤ j → entry_in (entries_in t) p a j ≡ None
       none_from s j l = go (dec_lt j 65536)
@@ -71,16 +56,16 @@ module _ (t : List ℕ) (p a h r : ℕ) (lp : p < 65536) (la : a < 256) (b : Bou
           go (yes m) = skipped j s l m (λ q. omega (arith, b.above q, n q))
           go (no m) = past_hops t p a j (omega arith)
 
-  pub hop_found : r < length t → get_or t r 0 / 1099511627776 ≡ p * 256 + a → HopAhead t p a h (Some (hop_entry (get_or t r 0 / 16777216 % 65536) (get_or t r 0 / 65536 % 256) (get_or t r 0 % 65536)))
+  pub hop_found : r < length t → get_or t r 0 / 1099511627776 ≡ p * 256 + a → HopAhead t p a h (Some (record { hop = get_or t r 0 / 16777216 % 65536; out = entry_out (get_or t r 0 / 65536 % 256) (get_or t r 0 % 65536) }))
   unfolding Ahead
   hop_found l e = record {
-    first = λ q s k o x g j m n. skipped j s m (omega (arith, hop_same g)) (λ z. omega (arith, hop_same g));
-    over = λ q s g. absurd (no_hop (sym g));
+    first = λ q s y g j m n. let z = ap (λ (u : HopEntry). u.hop) (same_Some _ _ g) in skipped j s m (omega (arith, z)) (λ k. omega (arith, z));
+    over = λ q s g. absurd (none-some _ (sym g));
     past = λ q. absurd (omega arith);
-    from = λ k o x g. (subst (λ (u : Option HopEntry). Ahead t p a h u) g there).0;
-    found = λ k o x g. (subst (λ (u : Option HopEntry). Ahead t p a h u) g there).1;
+    from = λ y g. (subst (λ (u : Option HopEntry). Ahead t p a h u) g there).0;
+    found = λ y g. (subst (λ (u : Option HopEntry). Ahead t p a h u) g there).1;
   }
     where
-      there : Ahead t p a h (Some (hop_entry (get_or t r 0 / 16777216 % 65536) (get_or t r 0 / 65536 % 256) (get_or t r 0 % 65536)))
+      there : Ahead t p a h (Some (record { hop = get_or t r 0 / 16777216 % 65536; out = entry_out (get_or t r 0 / 65536 % 256) (get_or t r 0 % 65536) }))
       there = let above : h ≤ get_or t r 0 / 16777216 % 65536 = omega (arith, b.above l) in
           (above, entry_found_lem t p a (get_or t r 0 / 16777216 % 65536) r lp la (omega arith) (later (get_or t r 0 / 16777216 % 65536) above (λ q. omega arith)) l (omega arith))

@@ -5,25 +5,39 @@ ghost use Rattle.search.specs.Ahead.{HopAhead};
 ghost use Rattle.search.specs.Lanes.{LaneSought};
 ghost use Rattle.search.specs.Work.{WordSought};
 ghost use Rattle.tables.specs.Found.{EntrySought, AdapterSought};
+ghost use Rattle.std.specs.Prelude.{◌≡◌, ◌/◌, ◌%◌};
+ghost use Rattle.adapter.specs.Paths.{entry_out};
 
 use adapter::{EntryOut, Facts};
+use tables::Stand;
 
-// A HopID with the out adapter and out HopID of its entry.
+// A HopID and what its entry leads to.
 #[derive(Clone, Copy)]
 pub struct HopEntry {
     pub hop: u16,
-    pub out_adapter: u8,
-    pub out_hop: u16,
+    pub out: EntryOut,
+}
+
+// What the entry of a word leads to.
+fn out_of(w: u64) -> EntryOut
+    ensures { result ≡ entry_out (w / 65536 % 256) (w % 65536) }
+{
+    EntryOut {
+        out_adapter: (w / 65536 % 256) as u8,
+        out_hop: (w % 65536) as u16,
+    }
 }
 
 // The first entry for a HopID at an adapter of a device.
-pub fn find_entry(entries: &[u64], place: usize, adapter: u8, hop: u16) -> Option<EntryOut>
-    ensures { EntrySought entries.now place adapter hop result }
+pub fn find_entry(entries: &[u64], stand: Stand) -> Option<EntryOut>
+    ensures { EntrySought entries.now stand.place stand.adapter stand.hop_id result }
 {
+    let place = stand.place;
     if 65535 < place {
         return None;
     }
-    let key = (place as u64) * 16777216 + (adapter as u64) * 65536 + (hop as u64);
+    let key =
+        (place as u64) * 16777216 + (stand.adapter as u64) * 65536 + (stand.hop_id as u64);
     let i = boundary::seek(entries, key * 16777216);
     if entries.len() <= i {
         return None;
@@ -32,21 +46,19 @@ pub fn find_entry(entries: &[u64], place: usize, adapter: u8, hop: u16) -> Optio
     if w / 16777216 != key {
         return None;
     }
-    Some(EntryOut {
-        out_adapter: (w / 65536 % 256) as u8,
-        out_hop: (w % 65536) as u16,
-    })
+    Some(out_of(w))
 }
 
-// The next HopID of an adapter of a device, from `hop` on, that has an entry, with its first entry.
-pub fn next_hop(entries: &[u64], place: usize, adapter: u8, hop: u16) -> Option<HopEntry>
-    ensures { HopAhead entries.now place adapter hop result }
+// The next HopID at an adapter of a device, from a stand's on, that has an entry, with its first entry.
+pub fn next_hop(entries: &[u64], stand: Stand) -> Option<HopEntry>
+    ensures { HopAhead entries.now stand.place stand.adapter stand.hop_id result }
 {
+    let place = stand.place;
     if 65535 < place {
         return None;
     }
-    let owner = (place as u64) * 256 + (adapter as u64);
-    let i = boundary::seek(entries, (owner * 65536 + (hop as u64)) * 16777216);
+    let owner = (place as u64) * 256 + (stand.adapter as u64);
+    let i = boundary::seek(entries, (owner * 65536 + (stand.hop_id as u64)) * 16777216);
     if entries.len() <= i {
         return None;
     }
@@ -55,12 +67,9 @@ pub fn next_hop(entries: &[u64], place: usize, adapter: u8, hop: u16) -> Option<
         return None;
     }
     let next = (w / 16777216 % 65536) as u16;
-    let out_adapter = (w / 65536 % 256) as u8;
-    let out_hop = (w % 65536) as u16;
     Some(HopEntry {
         hop: next,
-        out_adapter,
-        out_hop,
+        out: out_of(w),
     })
 }
 

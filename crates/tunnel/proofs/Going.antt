@@ -10,9 +10,8 @@ use lib.ListN.{length, get_or}
 use Rattle.refusal.specs.Outcome.{Outcome, refused, value, bind}
 use Rattle.tables.specs.Rows.{EntryRow, Rows}
 use Rattle.tables.specs.Packed.{entries_in}
-use Rattle.refusal.specs.Refusal.{refused_by}
-use Rattle.refusal.specs.declared.Refusal.{Refusal}
-use Rattle.refusal.proofs.Laws.{refused_bind}
+use Rattle.refusal.specs.Refusal.{refused_by, of_walk}
+use Rattle.refusal.proofs.Laws.{walk_bind}
 use Rattle.orbit.specs.Walk.{Spot, Spot.stand, Spot.ended, Spot.stopped, found, arrive, turned, made, onward, walk_n}
 use Rattle.fabric.specs.Fabric.{Way, Way.on, Way.last, Way.dropped, leads}
 use Rattle.walk.specs.Walking.{End, turn_by, walk_on}
@@ -31,14 +30,15 @@ use Rattle.walk.specs.declared.Walked.{Walked}
 use Rattle.tables.specs.declared.Stand.{Stand}
 use Rattle.tables.specs.declared.Tables.{Tables}
 use Rattle.tables.specs.Tables.{Tabled, rows_of}
+use Rattle.refusal.specs.declared.WalkError.{WalkError}
 
 -- ---- outcomes
 
 -- what refuses a step refuses all that follows it
-pub refuses : {A B C : Type 0} (o : Outcome A) (g : A → C) (k : A → Outcome B) (z : Refusal) → refused_by z ≡ bind o (λ y. value (g y)) → refused_by z ≡ bind o k
+pub refuses : {A B C : Type 0} (o : Outcome A) (g : A → C) (k : A → Outcome B) (z : WalkError) → refused_by (of_walk z) ≡ bind o (λ y. value (g y)) → refused_by (of_walk z) ≡ bind o k
 unfolding bind
-refuses (refused n vs) g k z e = sym (refused_bind z (λ y. refused 0 [])) ∙ ap (λ w. bind w (λ y. refused 0 [])) e
-refuses (value y) g k z e = absurd (let w = refused_as_lem (value (g y)) z e in let v = w.2 in let u : ◌≡◌ {A = ℕ} 0 1 = cc in omega arith)
+refuses (refused n vs) g k z e = sym (walk_bind z (λ y. refused 0 [])) ∙ ap (λ w. bind w (λ y. refused 0 [])) e
+refuses (value y) g k z e = absurd (let w = refused_as_lem (value (g y)) (of_walk z) e in let v = w.2 in let u : ◌≡◌ {A = ℕ} 0 1 = cc in omega arith)
 
 leaves_none : (o : Outcome (Option (List EntryRow))) → value None ≡ bind o (λ y. value (leaves y)) → (o ≡ value (Some []) → ⊥) → o ≡ value None
 unfolding bind leaves leaving_of
@@ -141,8 +141,8 @@ module _ (tables : Tables) (s : Stand) where
       goes : (p o q a : ℕ) → leads (rows_of tables) p o ≡ value (on q a) → q < length tables.routes.now
       goes p o q a f = there_below tables q (leads_there (rows_of tables) (upstreams tables) p o q a f)
 
-  module _ (r : Result (Option Walked) Refusal) (f : Tallied tables s r) (t : Tabled tables) (l : s.place < 65536) where
-    pub tally_refused : {A : Type 0} (z : Refusal) (k : Option (List EntryRow) → Outcome A) → r ≡ Err z → refused_by z ≡ bind (walk_from (rows_of tables) s) k
+  module _ (r : Result (Option Walked) WalkError) (f : Tallied tables s r) (t : Tabled tables) (l : s.place < 65536) where
+    pub tally_refused : {A : Type 0} (z : WalkError) (k : Option (List EntryRow) → Outcome A) → r ≡ Err z → refused_by (of_walk z) ≡ bind (walk_from (rows_of tables) s) k
     unfolding tally_outcome
     tally_refused z k e = refuses (walk_from (rows_of tables) s) leaves k z (sym (ap tally_outcome e) ∙ f.answers t l)
 

@@ -11,9 +11,8 @@ use Rattle.refusal.specs.Outcome.{Outcome, refused, value, bind}
 use Rattle.usb4.specs.declared.TunnelType.{TunnelType}
 use Rattle.usb4.specs.declared.TunnelType.TheVariants as tunnel_type
 use Rattle.tables.specs.Rows.{EntryRow, Rows}
-use Rattle.refusal.specs.Refusal.{refused_by}
-use Rattle.refusal.specs.declared.Refusal.{Refusal}
-use Rattle.refusal.proofs.Laws.{refused_bind}
+use Rattle.refusal.specs.Refusal.{refused_by, of_walk}
+use Rattle.refusal.proofs.Laws.{walk_bind}
 use Rattle.walk.specs.Rule.{walk_from, stand_of}
 use Rattle.walk.specs.Tables.{Tallied}
 use Rattle.path.specs.Words.{path_words, words_needed}
@@ -22,7 +21,7 @@ use Rattle.path.proofs.Answering.{hops_few}
 use Rattle.receive.specs.Receive.{at}
 use Rattle.tunnel.specs.Tunnels.{Path, Tunnel, path, leaving, or_absent, needed, tunnel_of, down_and_up, display_port}
 use Rattle.tunnel.specs.Words.{back_to, last_path, closed_by, closed, paths_words, tunnel_words}
-use Rattle.tunnel.specs.Plans.{From, Plan, start_of, from_of, plan_of, plan_if, from_by, planned_as, planned_outcome, words_by, paths_by, Plans}
+use Rattle.tunnel.specs.Plans.{Plan, start_of, from_of, plan_of, plan_if, planned_as, planned_outcome, words_by, paths_by, Plans}
 use Rattle.tunnel.specs.Work.{Draws, start_by, leaves_by, last_plan, finished, auxiliary, one_path}
 use Rattle.tunnel.specs.declared.Start.{Start}
 use Rattle.tunnel.specs.declared.Plan.{Plan as Planned}
@@ -32,6 +31,7 @@ use Rattle.walk.specs.declared.Walked.{Walked}
 use Rattle.tables.specs.declared.Stand.{Stand}
 use Rattle.tables.specs.declared.Tables.{Tables}
 use Rattle.tables.specs.Tables.{Tabled, rows_of}
+use Rattle.refusal.specs.declared.WalkError.{WalkError}
 
 -- ---- a walk that must give a path
 
@@ -84,13 +84,13 @@ back_to_lem [] ls l = absurd (omega arith)
 back_to_lem (e ∷ es) [] l = refl
 back_to_lem (e ∷ es) (h ∷ hs) l = refl
 
-abbrev pub plan : TunnelType → Bool → ℕ → List From → Plan
+abbrev pub plan : TunnelType → Bool → ℕ → List Start → Plan
 plan t c w l = record { type = t; closed = c; words = w; starts = l }
 
-abbrev pub from : Stand → ℕ → From
+abbrev pub from : Stand → ℕ → Start
 from s n = record { stand = s; name = n }
 
-pub same_plan : (t : TunnelType) {c d : Bool} {v w : ℕ} {l m : List From} → c ≡ d → v ≡ w → l ≡ m → value (Some (plan t c v l)) ≡ value (Some (plan t d w m))
+pub same_plan : (t : TunnelType) {c d : Bool} {v w : ℕ} {l m : List Start} → c ≡ d → v ≡ w → l ≡ m → value (Some (plan t c v l)) ≡ value (Some (plan t d w m))
 same_plan t {c} {d} {v} {w} {l} {m} e f g = ap (λ z. value (Some (plan t z v l))) e ∙ ap (λ z. value (Some (plan t d z l))) f ∙ ap (λ z. value (Some (plan t d w z))) g
 
 -- a tunnel of one path, of two, and of three
@@ -122,15 +122,15 @@ abbrev pub Words : ℕ → ℕ → Type 0
 Words n w = (w ≤ 131071) × (n < 65536 → w ≡ 1 + 2 * n)
 
 module _ (tables : Tables) (p : ℕ) where
-  pub plans_refused : (f : Rows → Outcome (Option Tunnel)) (z : Refusal) → (Tabled tables → p < 65536 → refused_by z ≡ f (rows_of tables)) → Plans tables p f (Err z)
+  pub plans_refused : (f : Rows → Outcome (Option Tunnel)) (z : WalkError) → (Tabled tables → p < 65536 → refused_by (of_walk z) ≡ f (rows_of tables)) → Plans tables p f (Err z)
   unfolding planned_outcome words_by paths_by
-  plans_refused f z g = record { answers = λ y t l. sym (refused_bind z (λ o. value (plan_if o))) ∙ ap planned (g t l); few = omega arith; three = omega arith }
+  plans_refused f z g = record { answers = λ y t l. sym (walk_bind z (λ o. value (plan_if o))) ∙ ap planned (g t l); few = omega arith; three = omega arith }
 
   pub plans_absent : (f : Rows → Outcome (Option Tunnel)) → (Tabled tables → p < 65536 → value None ≡ f (rows_of tables)) → Plans tables p f (Ok None)
   unfolding planned_outcome words_by paths_by bind plan_if
   plans_absent f g = record { answers = λ y t l. ap planned (g t l); few = omega arith; three = omega arith }
 
-  pub draws_refused : (f : Rows → Outcome (Option Plan)) (z : Refusal) → (Tabled tables → p < 65536 → refused_by z ≡ f (rows_of tables)) → Draws tables p f (Err z)
+  pub draws_refused : (f : Rows → Outcome (Option Plan)) (z : WalkError) → (Tabled tables → p < 65536 → refused_by (of_walk z) ≡ f (rows_of tables)) → Draws tables p f (Err z)
   unfolding planned_outcome words_by paths_by
   draws_refused f z g = record { answers = λ y t l. g t l; few = omega arith; three = omega arith }
 
@@ -138,37 +138,32 @@ module _ (tables : Tables) (p : ℕ) where
   unfolding planned_outcome words_by paths_by
   draws_absent f g = record { answers = λ y t l. g t l; few = omega arith; three = omega arith }
 
--- a ring's tunnel of one path
-pub one_answer : (w : ℕ) (s : Start) {a b d : Start} → a ≡ s → b ≡ s → d ≡ s → planned_as tunnel_type.Dma false w 1 a b d ≡ one_path w s
-unfolding one_path
-one_answer w s {a} {b} {d} e f g = ap (λ z. planned_as tunnel_type.Dma false w 1 z b d) e ∙ ap (λ z. planned_as tunnel_type.Dma false w 1 s z d) f ∙ ap (λ z. planned_as tunnel_type.Dma false w 1 s s z) g
-
 -- the last path
-module _ (tables : Tables) (kind : TunnelType) (words paths : ℕ) (first second last : Start) (r : Result (Option Walked) Refusal) (f : Tallied tables (stood last.place last.adapter last.hop) r) where
-  pub finish_refused : (z : Refusal) → r ≡ Err z → Draws tables last.place (λ x. finished x kind words paths first second last) (Err z)
+module _ (tables : Tables) (kind : TunnelType) (words paths : ℕ) (first second last : Start) (r : Result (Option Walked) WalkError) (f : Tallied tables (last.stand) r) where
+  pub finish_refused : (z : WalkError) → r ≡ Err z → Draws tables last.stand.place (λ x. finished x kind words paths first second last) (Err z)
   unfolding finished needed at
   finish_refused z e = draws_refused tables _ _ z (λ t l. tally_refused tables _ r f t l z _ e)
 
-  pub finish_absent : r ≡ (Ok None) → Draws tables last.place (λ x. finished x kind words paths first second last) (Ok None)
+  pub finish_absent : r ≡ (Ok None) → Draws tables last.stand.place (λ x. finished x kind words paths first second last) (Ok None)
   unfolding finished at
   finish_absent e = draws_absent tables _ _ (λ t l. sym (needed_none _ _ _ (tally_absent tables _ r f t l e)))
 
-  pub finish_path : (n q a h w : ℕ) (c : Bool) → r ≡ walked_to n q a h → c ≡ (eqb q first.place && eqb a first.adapter) → Words n w → words ≤ 262143 → paths ≤ 3
-      → Draws tables last.place (λ x. finished x kind words paths first second last) (Ok (Some (planned_as kind c (words + w) paths first second last)))
+  pub finish_path : (n q a h w : ℕ) (c : Bool) → r ≡ walked_to n q a h → c ≡ (eqb q first.stand.place && eqb a first.stand.adapter) → Words n w → words ≤ 262143 → paths ≤ 3
+      → Draws tables last.stand.place (λ x. finished x kind words paths first second last) (Ok (Some (planned_as kind c (words + w) paths first second last)))
   unfolding finished at last_plan planned_outcome words_by paths_by
   finish_path n q a h w c e g (m, k) v o = record {
     answers = λ y t l.
         let u = tally_path tables _ r f t l n q a h e in
         let hs = u.0 in
-        same_plan kind (g ∙ sym (u.1.end first.place first.adapter)) (omega (arith, u.1.count, k (omega (arith, hops_few tables _ r y f n q a h e)))) refl
+        same_plan kind (g ∙ sym (u.1.end first.stand.place first.stand.adapter)) (omega (arith, u.1.count, k (omega (arith, hops_few tables _ r y f n q a h e)))) refl
         ∙ sym (needed_path _ _ u.0 _ u.1.walk);
     few = omega arith;
     three = o;
   }
 
 -- two paths
-module _ (tables : Tables) (p a : ℕ) (kind : TunnelType) (down up : ℕ) (r : Result (Option Walked) Refusal) (f : Tallied tables (stood p a 8) r) where
-  pub down_refused : (z : Refusal) → r ≡ Err z → Plans tables p (λ x. down_and_up x kind down up p a) (Err z)
+module _ (tables : Tables) (p a : ℕ) (kind : TunnelType) (down up : ℕ) (r : Result (Option Walked) WalkError) (f : Tallied tables (stood p a 8) r) where
+  pub down_refused : (z : WalkError) → r ≡ Err z → Plans tables p (λ x. down_and_up x kind down up p a) (Err z)
   unfolding down_and_up needed at
   down_refused z e = plans_refused tables p _ z (λ t l. tally_refused tables _ r f t l z _ e)
 
@@ -176,16 +171,16 @@ module _ (tables : Tables) (p a : ℕ) (kind : TunnelType) (down up : ℕ) (r : 
   unfolding down_and_up at
   down_absent e = plans_absent tables p _ (λ t l. sym (needed_none _ _ _ (tally_absent tables _ r f t l e)))
 
-  pub down_path : (n q b h w : ℕ) (first second third : Start) (y : Result (Option Planned) Refusal) → r ≡ walked_to n q b h → Words n w → first ≡ start_by (at p a 8) down → second ≡ start_by (at q b 8) up → third ≡ start_by (at q b 8) up
-      → Draws tables third.place (λ x. finished x kind (1 + w) 2 first second third) y → Plans tables p (λ x. down_and_up x kind down up p a) y
-  unfolding down_and_up at finished last_plan start_by from_by
+  pub down_path : (n q b h w : ℕ) (first second third : Start) (y : Result (Option Planned) WalkError) → r ≡ walked_to n q b h → Words n w → first ≡ start_by (at p a 8) down → second ≡ start_by (at q b 8) up → third ≡ start_by (at q b 8) up
+      → Draws tables third.stand.place (λ x. finished x kind (1 + w) 2 first second third) y → Plans tables p (λ x. down_and_up x kind down up p a) y
+  unfolding down_and_up at finished last_plan
   down_path n q b h w first second third y e (m, k) i j o d = record {
     answers = λ v t l.
         let x = rows_of tables in
         let u = tally_path tables _ r f t l n q b h e in
         let ds = u.0 in
         let few = hops_few tables _ r v f n q b h e in
-        d.answers v t (omega (arith, ap (λ (s : Start). s.place) o, u.1.there, t.devices))
+        d.answers v t (omega (arith, ap (λ (s : Start). s.stand.place) o, u.1.there, t.devices))
         ∙ ap (λ s. finished x kind (1 + w) 2 s second third) i
         ∙ ap (λ s. finished x kind (1 + w) 2 (start_by (at p a 8) down) s third) j
         ∙ ap (λ s. finished x kind (1 + w) 2 (start_by (at p a 8) down) (start_by (at q b 8) up) s) o
@@ -198,8 +193,8 @@ module _ (tables : Tables) (p a : ℕ) (kind : TunnelType) (down up : ℕ) (r : 
   }
 
 -- AUX TX, then AUX RX from where it leaves
-module _ (tables : Tables) (p a words : ℕ) (r : Result (Option Walked) Refusal) (f : Tallied tables (stood p a 8) r) where
-  pub aux_refused : (z : Refusal) → r ≡ Err z → Draws tables p (λ x. auxiliary x p a words) (Err z)
+module _ (tables : Tables) (p a words : ℕ) (r : Result (Option Walked) WalkError) (f : Tallied tables (stood p a 8) r) where
+  pub aux_refused : (z : WalkError) → r ≡ Err z → Draws tables p (λ x. auxiliary x p a words) (Err z)
   unfolding auxiliary needed at
   aux_refused z e = draws_refused tables p _ z (λ t l. tally_refused tables _ r f t l z _ e)
 
@@ -207,15 +202,15 @@ module _ (tables : Tables) (p a words : ℕ) (r : Result (Option Walked) Refusal
   unfolding auxiliary at
   aux_absent e = draws_absent tables p _ (λ t l. sym (needed_none _ _ _ (tally_absent tables _ r f t l e)))
 
-  pub aux_path : (n q b h w : ℕ) (first second third : Start) (y : Result (Option Planned) Refusal) → r ≡ walked_to n q b h → Words n w → first ≡ start_by (at p a 9) 2 → second ≡ start_by (at p a 8) 3 → third ≡ start_by (at q b 8) 4
-      → Draws tables third.place (λ x. finished x tunnel_type.DisplayPort (words + w) 3 first second third) y → Draws tables p (λ x. auxiliary x p a words) y
-  unfolding auxiliary at start_by
+  pub aux_path : (n q b h w : ℕ) (first second third : Start) (y : Result (Option Planned) WalkError) → r ≡ walked_to n q b h → Words n w → first ≡ start_by (at p a 9) 2 → second ≡ start_by (at p a 8) 3 → third ≡ start_by (at q b 8) 4
+      → Draws tables third.stand.place (λ x. finished x tunnel_type.DisplayPort (words + w) 3 first second third) y → Draws tables p (λ x. auxiliary x p a words) y
+  unfolding auxiliary at
   aux_path n q b h w first second third y e (m, k) i j o d = record {
     answers = λ v t l.
         let x = rows_of tables in
         let u = tally_path tables _ r f t l n q b h e in
         let few = hops_few tables _ r v f n q b h e in
-        d.answers v t (omega (arith, ap (λ (s : Start). s.place) o, u.1.there, t.devices))
+        d.answers v t (omega (arith, ap (λ (s : Start). s.stand.place) o, u.1.there, t.devices))
         ∙ ap (λ s. finished x tunnel_type.DisplayPort (words + w) 3 s second third) i
         ∙ ap (λ s. finished x tunnel_type.DisplayPort (words + w) 3 (start_by (at p a 9) 2) s third) j
         ∙ ap (λ s. finished x tunnel_type.DisplayPort (words + w) 3 (start_by (at p a 9) 2) (start_by (at p a 8) 3) s) (o ∙ ap (λ s. start_by s 4) (sym (u.1.leave 8)))
@@ -226,8 +221,8 @@ module _ (tables : Tables) (p a words : ℕ) (r : Result (Option Walked) Refusal
   }
 
 -- three paths
-module _ (tables : Tables) (p a : ℕ) (r : Result (Option Walked) Refusal) (f : Tallied tables (stood p a 9) r) where
-  pub video_refused : (z : Refusal) → r ≡ Err z → Plans tables p (λ x. display_port x p a) (Err z)
+module _ (tables : Tables) (p a : ℕ) (r : Result (Option Walked) WalkError) (f : Tallied tables (stood p a 9) r) where
+  pub video_refused : (z : WalkError) → r ≡ Err z → Plans tables p (λ x. display_port x p a) (Err z)
   unfolding display_port needed at
   video_refused z e = plans_refused tables p _ z (λ t l. tally_refused tables _ r f t l z _ e)
 
@@ -235,8 +230,8 @@ module _ (tables : Tables) (p a : ℕ) (r : Result (Option Walked) Refusal) (f :
   unfolding display_port at
   video_absent e = plans_absent tables p _ (λ t l. sym (needed_none _ _ _ (tally_absent tables _ r f t l e)))
 
-  pub video_path : (n q b h w : ℕ) (y : Result (Option Planned) Refusal) → r ≡ walked_to n q b h → Words n w → Draws tables p (λ x. auxiliary x p a (1 + w)) y → Plans tables p (λ x. display_port x p a) y
-  unfolding display_port auxiliary at finished last_plan start_by from_by
+  pub video_path : (n q b h w : ℕ) (y : Result (Option Planned) WalkError) → r ≡ walked_to n q b h → Words n w → Draws tables p (λ x. auxiliary x p a (1 + w)) y → Plans tables p (λ x. display_port x p a) y
+  unfolding display_port auxiliary at finished last_plan
   video_path n q b h w y e (m, k) d = record {
     answers = λ v t l.
         let x = rows_of tables in

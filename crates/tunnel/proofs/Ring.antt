@@ -10,8 +10,7 @@ use lib.ListN.{length}
 use Rattle.refusal.specs.Outcome.{Outcome, refused, value, bind}
 use Rattle.usb4.specs.declared.TunnelType.TheVariants as tunnel_type
 use Rattle.tables.specs.Rows.{EntryRow, DeviceRow, Rows}
-use Rattle.refusal.specs.declared.Refusal.{Refusal}
-use Rattle.refusal.proofs.Laws.{refused_bind}
+use Rattle.refusal.proofs.Laws.{walk_bind}
 use Rattle.walk.specs.Rule.{stand_of}
 use Rattle.walk.specs.Tables.{last_of, leaving_by, Tallied}
 use Rattle.path.proofs.Writing.{stood}
@@ -21,7 +20,7 @@ use Rattle.receive.specs.Tables.{Said, Said.none as said-none, Said.dropped, sai
 use Rattle.receive.specs.declared.Received.{Received}
 use Rattle.receive.specs.declared.Received.TheVariants as found
 use Rattle.tunnel.specs.Tunnels.{tunnel_of, tx_path, with_paths, ring_tunnel, one_dma}
-use Rattle.tunnel.specs.Plans.{Plan, start_of, plan_if, from_by, planned_as, planned_outcome, words_by, paths_by, Plans}
+use Rattle.tunnel.specs.Plans.{Plan, start_of, plan_if, planned_as, planned_outcome, words_by, paths_by, Plans}
 use Rattle.tunnel.specs.Work.{Draws, start_by, leaves_by, one_path, one_plan, alone_plan, with_plan, ring_by}
 use Rattle.tunnel.specs.declared.Start.{Start}
 use Rattle.tunnel.specs.declared.Plan.{Plan as Planned}
@@ -31,6 +30,8 @@ use Rattle.walk.specs.Tables.{walked_to}
 use Rattle.walk.specs.declared.Walked.{Walked}
 use Rattle.tables.specs.declared.Tables.{Tables}
 use Rattle.tables.specs.Tables.{Sized, rows_of}
+use Rattle.tables.specs.declared.Stand.{Stand}
+use Rattle.refusal.specs.declared.WalkError.{WalkError}
 
 -- ---- a receive path has a hop
 
@@ -110,13 +111,13 @@ with_plan_lem p a ring w ts (value lost) l e f k = refl
 
 -- ---- what is answered of the search
 
-module _ (tables : Tables) (ring : ℕ) (r : Result Received Refusal) (f : Receives tables ring r) where
-  pub ring_refused : (g : Said → Option Plan) (z : Refusal) → r ≡ Err z → Draws tables 0 (λ x. ring_by x ring g) (Err z)
+module _ (tables : Tables) (ring : ℕ) (r : Result Received WalkError) (f : Receives tables ring r) where
+  pub ring_refused : (g : Said → Option Plan) (z : WalkError) → r ≡ Err z → Draws tables 0 (λ x. ring_by x ring g) (Err z)
   unfolding ring_by received_outcome
-  ring_refused g z e = draws_refused tables 0 _ z (λ t l. sym (refused_bind z (λ v. value (g v))) ∙ ap (λ o. bind o (λ v. value (g v))) (sym (ap (received_outcome ring) e) ∙ f.answers t))
+  ring_refused g z e = draws_refused tables 0 _ z (λ t l. sym (walk_bind z (λ v. value (g v))) ∙ ap (λ o. bind o (λ v. value (g v))) (sym (ap (received_outcome ring) e) ∙ f.answers t))
 
   -- what is said of it is put in
-  ring_says : (g : Said → Option Plan) (v : Said) (y : Result (Option Planned) Refusal) → received_outcome ring r ≡ value v → (Sized tables → planned_outcome y ≡ value (g v)) → words_by y ≤ 1048576 → paths_by y ≤ 3 → Draws tables 0 (λ x. ring_by x ring g) y
+  ring_says : (g : Said → Option Plan) (v : Said) (y : Result (Option Planned) WalkError) → received_outcome ring r ≡ value v → (Sized tables → planned_outcome y ≡ value (g v)) → words_by y ≤ 1048576 → paths_by y ≤ 3 → Draws tables 0 (λ x. ring_by x ring g) y
   unfolding ring_by bind
   ring_says g v y e h k j = record { answers = λ z t l. h z ∙ ap (λ o. bind o (λ v. value (g v))) (sym e ∙ f.answers t); few = k; three = j }
 
@@ -128,43 +129,43 @@ module _ (tables : Tables) (ring : ℕ) (r : Result Received Refusal) (f : Recei
   unfolding received_outcome planned_outcome words_by paths_by alone_plan
   alone_nothing e = ring_says alone_plan said-none (Ok None) (ap (received_outcome ring) e) (λ z. refl) (omega arith) (omega arith)
 
-  few_hops : (q n h k o b : ℕ) → r ≡ Ok (found.Path (path_of q n h k o b)) → Sized tables → k ≤ 4096
+  few_hops : (s : Stand) (k o b : ℕ) → r ≡ Ok (found.Path (path_of s k o b)) → Sized tables → k ≤ 4096
   unfolding hops_by
-  few_hops q n h k o b e z = let v : k ≤ length tables.entries.now = subst (λ y. hops_by y ≤ length tables.entries.now) e f.few in omega (arith, z.entries)
+  few_hops s k o b e z = let v : k ≤ length tables.entries.now = subst (λ y. hops_by y ≤ length tables.entries.now) e f.few in omega (arith, z.entries)
 
-  pub alone_path : (q n h k o b w : ℕ) (y : Planned) → r ≡ Ok (found.Path (path_of q n h k o b)) → Words k w → y ≡ one_path (1 + w) (start_by (at q n h) 8) → Draws tables 0 (λ x. ring_by x ring alone_plan) (Ok (Some y))
-  unfolding received_outcome planned_outcome words_by paths_by alone_plan one_path one_plan start_by from_by at
-  alone_path q n h k o b w y e (m, g) i = subst (λ z. Draws tables 0 (λ x. ring_by x ring alone_plan) (Ok (Some z))) (sym i)
-      (ring_says alone_plan _ (Ok (Some (one_path (1 + w) (start_by (at q n h) 8)))) (ap (received_outcome ring) e)
-      (λ z. ap (λ c. value (Some (plan tunnel_type.Dma false (1 + c) (from (at q n h) 8 ∷ [])))) (g (omega (arith, few_hops q n h k o b e z))))
+  pub alone_path : (s : Stand) (k o b w : ℕ) (y : Planned) → r ≡ Ok (found.Path (path_of s k o b)) → Words k w → y ≡ one_path (1 + w) (start_by s 8) → Draws tables 0 (λ x. ring_by x ring alone_plan) (Ok (Some y))
+  unfolding received_outcome planned_outcome words_by paths_by alone_plan one_path one_plan
+  alone_path s k o b w y e (m, g) i = subst (λ z. Draws tables 0 (λ x. ring_by x ring alone_plan) (Ok (Some z))) (sym i)
+      (ring_says alone_plan _ (Ok (Some (one_path (1 + w) (start_by s 8)))) (ap (received_outcome ring) e)
+      (λ z. ap (λ c. value (Some (plan tunnel_type.Dma false (1 + c) (from s 8 ∷ [])))) (g (omega (arith, few_hops s k o b e z))))
       (omega arith) (omega arith))
 
-  module _ (p a words : ℕ) (few : words ≤ 131072) where
-    pub with_lost : r ≡ Ok found.Lost → Draws tables 0 (λ x. ring_by x ring (with_plan (at p a ring) words)) (Ok None)
+  module _ (s : Stand) (words : ℕ) (few : words ≤ 131072) where
+    pub with_lost : r ≡ Ok found.Lost → Draws tables 0 (λ x. ring_by x ring (with_plan s words)) (Ok None)
     unfolding received_outcome planned_outcome words_by paths_by with_plan
-    with_lost e = ring_says (with_plan (at p a ring) words) dropped (Ok None) (ap (received_outcome ring) e) (λ z. refl) (omega arith) (omega arith)
+    with_lost e = ring_says (with_plan s words) dropped (Ok None) (ap (received_outcome ring) e) (λ z. refl) (omega arith) (omega arith)
 
-    pub with_nothing : (y : Planned) → r ≡ Ok found.Nothing → y ≡ one_path words (start_by (at p a ring) 7) → Draws tables 0 (λ x. ring_by x ring (with_plan (at p a ring) words)) (Ok (Some y))
-    unfolding received_outcome planned_outcome words_by paths_by with_plan one_path one_plan start_by from_by at
-    with_nothing y e i = subst (λ z. Draws tables 0 (λ x. ring_by x ring (with_plan (at p a ring) words)) (Ok (Some z))) (sym i)
-        (ring_says (with_plan (at p a ring) words) said-none (Ok (Some (one_path words (start_by (at p a ring) 7)))) (ap (received_outcome ring) e) (λ z. refl) (omega arith) (omega arith))
+    pub with_nothing : (y : Planned) → r ≡ Ok found.Nothing → y ≡ one_path words (start_by s 7) → Draws tables 0 (λ x. ring_by x ring (with_plan s words)) (Ok (Some y))
+    unfolding received_outcome planned_outcome words_by paths_by with_plan one_path one_plan
+    with_nothing y e i = subst (λ z. Draws tables 0 (λ x. ring_by x ring (with_plan s words)) (Ok (Some z))) (sym i)
+        (ring_says (with_plan s words) said-none (Ok (Some (one_path words (start_by s 7)))) (ap (received_outcome ring) e) (λ z. refl) (omega arith) (omega arith))
 
-    pub with_path_lem : (q n h k o b w : ℕ) (c : Bool) (first second third : Start) → r ≡ Ok (found.Path (path_of q n h k o b)) → Words k w → c ≡ (eqb o p && eqb b a) → first ≡ start_by (at p a ring) 7 → second ≡ start_by (at q n h) 8
-        → Draws tables 0 (λ x. ring_by x ring (with_plan (at p a ring) words)) (Ok (Some (planned_as tunnel_type.Dma c (words + w) 2 first second third)))
-    unfolding received_outcome planned_outcome words_by paths_by with_plan start_by from_by at
-    with_path_lem q n h k o b w c first second third e (m, g) i j v =
-        ring_says (with_plan (at p a ring) words) _ _ (ap (received_outcome ring) e)
-        (λ z. same_plan tunnel_type.Dma i (ap (λ d. words + d) (g (omega (arith, few_hops q n h k o b e z)))) (ap (λ s. from_by s ∷ from_by second ∷ []) j ∙ ap (λ s. from (at p a ring) 7 ∷ from_by s ∷ []) v))
+    pub with_path_lem : (t : Stand) (k o b w : ℕ) (c : Bool) → r ≡ Ok (found.Path (path_of t k o b)) → Words k w → c ≡ (eqb o s.place && eqb b s.adapter)
+        → Draws tables 0 (λ x. ring_by x ring (with_plan s words)) (Ok (Some (planned_as tunnel_type.Dma c (words + w) 2 (start_by s 7) (start_by t 8) (start_by t 8))))
+    unfolding received_outcome planned_outcome words_by paths_by with_plan
+    with_path_lem t k o b w c e (m, g) i =
+        ring_says (with_plan s words) _ _ (ap (received_outcome ring) e)
+        (λ z. same_plan tunnel_type.Dma i (ap (λ d. words + d) (g (omega (arith, few_hops t k o b e z)))) refl)
         (omega arith) (omega arith)
 
 -- ---- a ring's tunnel
 
-module _ (tables : Tables) (p a ring : ℕ) (r : Result (Option Walked) Refusal) (f : Tallied tables (stood p a ring) r) where
-  pub dma_refused : (z : Refusal) → r ≡ Err z → Plans tables p (λ x. one_dma x p a ring) (Err z)
+module _ (tables : Tables) (p a ring : ℕ) (r : Result (Option Walked) WalkError) (f : Tallied tables (stood p a ring) r) where
+  pub dma_refused : (z : WalkError) → r ≡ Err z → Plans tables p (λ x. one_dma x p a ring) (Err z)
   unfolding one_dma at
   dma_refused z e = plans_refused tables p _ z (λ t l. tally_refused tables _ r f t l z _ e)
 
-  pub dma_alone : (y : Result (Option Planned) Refusal) → r ≡ (Ok None) → Draws tables 0 (λ x. ring_by x ring alone_plan) y → Plans tables p (λ x. one_dma x p a ring) y
+  pub dma_alone : (y : Result (Option Planned) WalkError) → r ≡ (Ok None) → Draws tables 0 (λ x. ring_by x ring alone_plan) y → Plans tables p (λ x. one_dma x p a ring) y
   unfolding one_dma at ring_by bind
   dma_alone y e d = record {
     answers = λ v t l.
@@ -175,7 +176,7 @@ module _ (tables : Tables) (p a ring : ℕ) (r : Result (Option Walked) Refusal)
     three = d.three;
   }
 
-  pub dma_with : (n q b h w : ℕ) (y : Result (Option Planned) Refusal) → r ≡ walked_to n q b h → Words n w → Draws tables 0 (λ x. ring_by x ring (with_plan (at p a ring) (1 + w))) y → Plans tables p (λ x. one_dma x p a ring) y
+  pub dma_with : (n q b h w : ℕ) (y : Result (Option Planned) WalkError) → r ≡ walked_to n q b h → Words n w → Draws tables 0 (λ x. ring_by x ring (with_plan (at p a ring) (1 + w))) y → Plans tables p (λ x. one_dma x p a ring) y
   unfolding one_dma at ring_by bind
   dma_with n q b h w y e (m, k) d = record {
     answers = λ v t l.

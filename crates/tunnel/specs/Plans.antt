@@ -3,8 +3,8 @@ use Rattle.std.specs.Prelude.{ℕ, ◌≤◌, ◌<◌, ◌≡◌, Bool, List, []
 use Rattle.refusal.specs.Outcome.{Outcome, value, bind}
 use Rattle.usb4.specs.declared.TunnelType.{TunnelType}
 use Rattle.tables.specs.Rows.{EntryRow, Rows}
-use Rattle.refusal.specs.Refusal.{refused_by}
-use Rattle.refusal.specs.declared.Refusal.{Refusal}
+use Rattle.refusal.specs.Refusal.{refused_by, of_walk}
+use Rattle.refusal.specs.declared.WalkError.{WalkError}
 use Rattle.walk.specs.Rule.{stand_of}
 use Rattle.receive.specs.Receive.{at}
 use Rattle.receive.specs.Tables.{Receives}
@@ -17,23 +17,18 @@ use Rattle.tables.specs.declared.Stand.{Stand}
 use Rattle.tables.specs.declared.Tables.{Tables}
 use Rattle.tables.specs.Tables.{Sized, Tabled, rows_of}
 
--- a path's name, and where its first hop stands
-pub record From : Type 0 where
-  pub stand : Stand
-  pub name : ℕ
-
 pub record Plan : Type 0 where
   pub type : TunnelType
   pub closed : Bool
   pub words : ℕ
-  pub starts : List From
+  pub starts : List Start
 
 -- a path has a hop
 unfoldable pub start_of : List EntryRow → Stand
 start_of [] = at 0 0 0
 start_of (h ∷ hs) = stand_of h
 
-unfoldable pub from_of : Path → From
+unfoldable pub from_of : Path → Start
 from_of p = record { stand = start_of p.hops; name = p.name }
 
 unfoldable pub plan_of : Tunnel → Plan
@@ -43,37 +38,34 @@ unfoldable pub plan_if : Option Tunnel → Option Plan
 plan_if None = None
 plan_if (Some t) = Some (plan_of t)
 
-unfoldable pub from_by : Start → From
-from_by s = record { stand = at s.place s.adapter s.hop; name = s.name }
-
 -- what a call answers of a tunnel
 abbrev pub planned_as : TunnelType → Bool → ℕ → ℕ → Start → Start → Start → Planned
 planned_as t c w n a b d = record { kind = t; closed = c; words = w; paths = n; first = a; second = b; third = d }
 
 -- document 01's number and values for what is answered: the first n of three starts; any past these are free
-unfoldable pub planned_outcome : Result (Option Planned) Refusal → Outcome (Option Plan)
-planned_outcome (Ok (Some p)) = value (Some (record { type = p.kind; closed = p.closed; words = p.words; starts = take p.paths (from_by p.first ∷ from_by p.second ∷ from_by p.third ∷ []) }))
+unfoldable pub planned_outcome : Result (Option Planned) WalkError → Outcome (Option Plan)
+planned_outcome (Ok (Some p)) = value (Some (record { type = p.kind; closed = p.closed; words = p.words; starts = take p.paths (p.first ∷ p.second ∷ p.third ∷ []) }))
 planned_outcome (Ok None) = value None
-planned_outcome (Err r) = refused_by r
+planned_outcome (Err r) = refused_by (of_walk r)
 
-unfoldable pub words_by : Result (Option Planned) Refusal → ℕ
+unfoldable pub words_by : Result (Option Planned) WalkError → ℕ
 words_by (Ok (Some p)) = p.words
 words_by (Ok None) = 0
 words_by (Err r) = 0
 
-unfoldable pub paths_by : Result (Option Planned) Refusal → ℕ
+unfoldable pub paths_by : Result (Option Planned) WalkError → ℕ
 paths_by (Ok (Some p)) = p.paths
 paths_by (Ok None) = 0
 paths_by (Err r) = 0
 
 -- For a place that a key has room for, in tables in order and no larger than a survey's, it is the plan of the tunnel that f says of their rows. Else it is free, but that it has at most three paths and 1,048,576 words.
-pub record Plans (tables : Tables) (p : ℕ) (f : Rows → Outcome (Option Tunnel)) (r : Result (Option Planned) Refusal) : Type 0 where
+pub record Plans (tables : Tables) (p : ℕ) (f : Rows → Outcome (Option Tunnel)) (r : Result (Option Planned) WalkError) : Type 0 where
   pub answers : Sized tables → Tabled tables → p < 65536 → planned_outcome r ≡ bind (f (rows_of tables)) (λ o. value (plan_if o))
   pub few : words_by r ≤ 1048576
   pub three : paths_by r ≤ 3
 
 -- The plan of a ring's tunnel by what a search for its receive path came to. For anything else that is handed in it is free, but for the same bounds.
-pub record RingPlans (tables : Tables) (p a ring : ℕ) (received : Result Received Refusal) (r : Result (Option Planned) Refusal) : Type 0 where
+pub record RingPlans (tables : Tables) (p a ring : ℕ) (received : Result Received WalkError) (r : Result (Option Planned) WalkError) : Type 0 where
   pub plans : Receives tables ring received → Plans tables p (λ x. one_dma x p a ring) r
   pub few : words_by r ≤ 1048576
   pub three : paths_by r ≤ 3

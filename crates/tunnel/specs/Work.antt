@@ -8,22 +8,22 @@ use Rattle.walk.specs.Tables.{last_of}
 use Rattle.receive.specs.Receive.{at, receive}
 use Rattle.receive.specs.Tables.{Said, Said.path, Said.none as nothing, Said.dropped, said_of}
 use Rattle.tunnel.specs.Tunnels.{leaving, needed}
-use Rattle.tunnel.specs.Plans.{Plan, from_by, planned_as, planned_outcome, words_by, paths_by}
+use Rattle.tunnel.specs.Plans.{Plan, planned_as, planned_outcome, words_by, paths_by}
 use Rattle.tunnel.specs.declared.Start.{Start}
 use Rattle.tunnel.specs.declared.Plan.{Plan as Planned}
-use Rattle.refusal.specs.declared.Refusal.{Refusal}
+use Rattle.refusal.specs.declared.WalkError.{WalkError}
 use Rattle.tables.specs.declared.Stand.{Stand}
 use Rattle.tables.specs.declared.Tables.{Tables}
 use Rattle.tables.specs.Tables.{Sized, Tabled, rows_of}
 
 -- as `Plans`, where f says the plan itself
-pub record Draws (tables : Tables) (p : ℕ) (f : Rows → Outcome (Option Plan)) (r : Result (Option Planned) Refusal) : Type 0 where
+pub record Draws (tables : Tables) (p : ℕ) (f : Rows → Outcome (Option Plan)) (r : Result (Option Planned) WalkError) : Type 0 where
   pub answers : Sized tables → Tabled tables → p < 65536 → planned_outcome r ≡ f (rows_of tables)
   pub few : words_by r ≤ 1048576
   pub three : paths_by r ≤ 3
 
-unfoldable pub start_by : Stand → ℕ → Start
-start_by s n = record { place = s.place; adapter = s.adapter; hop = s.hop_id; name = n }
+abbrev pub start_by : Stand → ℕ → Start
+start_by s n = record { stand = s; name = n }
 
 -- a path leaves by adapter a of the device at place p
 unfoldable pub leaves_by : List EntryRow → ℕ → ℕ → Bool
@@ -32,10 +32,10 @@ leaves_by (h ∷ hs) p a = let l = last_of h hs in eqb l.device p && eqb l.out_a
 
 -- a tunnel with w words before its last path, which starts at d: closed where that leaves by the place and adapter of the first
 unfoldable pub last_plan : TunnelType → ℕ → ℕ → Start → Start → Start → List EntryRow → Plan
-last_plan t w n a b d hs = record { type = t; closed = leaves_by hs a.place a.adapter; words = w + (1 + 2 * length hs); starts = take n (from_by a ∷ from_by b ∷ from_by d ∷ []) }
+last_plan t w n a b d hs = record { type = t; closed = leaves_by hs a.stand.place a.stand.adapter; words = w + (1 + 2 * length hs); starts = take n (a ∷ b ∷ d ∷ []) }
 
 unfoldable pub finished : Rows → TunnelType → ℕ → ℕ → Start → Start → Start → Outcome (Option Plan)
-finished x t w n a b d = needed x (at d.place d.adapter d.hop) (λ hs. value (Some (last_plan t w n a b d hs)))
+finished x t w n a b d = needed x d.stand (λ hs. value (Some (last_plan t w n a b d hs)))
 
 -- AUX TX and AUX RX after w words
 unfoldable pub auxiliary : Rows → ℕ → ℕ → ℕ → Outcome (Option Plan)

@@ -1,7 +1,8 @@
 // Tunnels of an adapter (module 7, `discover_usb3`, `discover_dp`, `discover_pcie`, `discover_one_dma`), as plans, on the tables that a survey is loaded to.
 #![tactic(auto)]
 
-ghost use Rattle.std.specs.Prelude.{ℕ, ◌+◌, ◌*◌, ◌≤◌, ◌<◌, ◌≡◌, ◌&&◌, List, eqb};
+ghost use Rattle.std.specs.Prelude.{ℕ, ◌+◌, ◌*◌, ◌≤◌, ◌<◌, ◌≡◌, ◌&&◌, eqb};
+ghost use Rattle.tables.specs.declared.Tables.{Tables};
 ghost use Rattle.receive.specs.Receive.{at};
 ghost use Rattle.receive.specs.Tables.{Receives};
 ghost use Rattle.tunnel.specs.Tunnels.{down_and_up, display_port};
@@ -9,15 +10,14 @@ ghost use Rattle.tunnel.specs.Plans.{words_by, paths_by, Plans, RingPlans};
 ghost use Rattle.tunnel.specs.Work.{Draws, finished, auxiliary, alone_plan, with_plan, ring_by, start_by, one_path};
 
 use receive::Received;
-use refusal::Refusal;
+use refusal::WalkError;
+use tables::{Stand, Tables};
 use usb4::TunnelType;
 
 // Where a path starts, and its name.
 #[derive(Clone, Copy)]
 pub struct Start {
-    pub place: usize,
-    pub adapter: u8,
-    pub hop: u16,
+    pub stand: Stand,
     pub name: u8,
 }
 
@@ -53,15 +53,15 @@ const DMA_TX: u8 = 7;
 
 const DMA_RX: u8 = 8;
 
-fn starting(place: usize, adapter: u8, hop: u16, name: u8) -> Start
-    ensures { result ≡ start_by (at place adapter hop) name }
+fn starting(place: usize, adapter: u8, hop_id: u16, name: u8) -> Start
+    ensures { result ≡ start_by (at place adapter hop_id) name }
 {
-    Start {
+    let stand = Stand {
         place,
         adapter,
-        hop,
-        name,
-    }
+        hop_id,
+    };
+    Start { stand, name }
 }
 
 // A path's words, for fewer than 65,536 hops: no survey loads to a path of more.
@@ -89,20 +89,18 @@ fn finish(
     first: Start,
     second: Start,
     last: Start,
-) -> Result<Option<Plan>, Refusal>
+) -> Result<Option<Plan>, WalkError>
     requires { (words ≤ 262143) × (paths ≤ 3) }
-    ensures { Draws tables.now last.place (λ x. finished x kind words paths first second last) result }
+    ensures { Draws tables.now last.stand.place (λ x. finished x kind words paths first second last) result }
 {
-    let place = last.place;
-    let adapter = last.adapter;
-    let hop = last.hop;
-    let walked = walk::tally(tables, place, adapter, hop)?;
+    let walked = walk::tally(tables, last.stand)?;
     let Some(w) = walked else {
         return Ok(None);
     };
+    let from = first.stand;
     Ok(Some(Plan {
         kind,
-        closed: same(w.place, w.adapter, first.place, first.adapter),
+        closed: same(w.place, w.adapter, from.place, from.adapter),
         words: words + path_words(w.hops),
         paths,
         first,
@@ -119,22 +117,16 @@ pub fn down_and_up(
     kind: TunnelType,
     down: u8,
     up: u8,
-) -> Result<Option<Plan>, Refusal>
+) -> Result<Option<Plan>, WalkError>
     ensures { Plans tables.now place (λ x. down_and_up x kind down up place adapter) result }
 {
-    let walked = walk::tally(tables, place, adapter, USB3_HOPID)?;
+    let first = starting(place, adapter, USB3_HOPID, down);
+    let walked = walk::tally(tables, first.stand)?;
     let Some(w) = walked else {
         return Ok(None);
     };
-    finish(
-        tables,
-        kind,
-        1 + path_words(w.hops),
-        2,
-        starting(place, adapter, USB3_HOPID, down),
-        starting(w.place, w.adapter, USB3_HOPID, up),
-        starting(w.place, w.adapter, USB3_HOPID, up),
-    )
+    let last = starting(w.place, w.adapter, USB3_HOPID, up);
+    finish(tables, kind, 1 + path_words(w.hops), 2, first, last, last)
 }
 
 // AUX TX and AUX RX, where a tunnel's head and its Video path have so many words.
@@ -143,12 +135,12 @@ fn aux(
     place: usize,
     adapter: u8,
     words: usize,
-) -> Result<Option<Plan>, Refusal>
+) -> Result<Option<Plan>, WalkError>
     requires { words ≤ 131072 }
     ensures { Draws tables.now place (λ x. auxiliary x place adapter words) result }
 {
-    let tx = DP_AUX_TX_HOPID;
-    let walked = walk::tally(tables, place, adapter, tx)?;
+    let tx = starting(place, adapter, DP_AUX_TX_HOPID, AUX_TX);
+    let walked = walk::tally(tables, tx.stand)?;
     let Some(w) = walked else {
         return Ok(None);
     };
@@ -158,7 +150,7 @@ fn aux(
         words + path_words(w.hops),
         3,
         starting(place, adapter, DP_VIDEO_HOPID, VIDEO),
-        starting(place, adapter, DP_AUX_TX_HOPID, AUX_TX),
+        tx,
         starting(w.place, w.adapter, DP_AUX_RX_HOPID, AUX_RX),
     )
 }
@@ -168,39 +160,34 @@ pub fn display_port(
     tables: &Tables,
     place: usize,
     adapter: u8,
-) -> Result<Option<Plan>, Refusal>
+) -> Result<Option<Plan>, WalkError>
     ensures { Plans tables.now place (λ x. display_port x place adapter) result }
 {
-    let video = DP_VIDEO_HOPID;
-    let walked = walk::tally(tables, place, adapter, video)?;
+    let video = starting(place, adapter, DP_VIDEO_HOPID, VIDEO);
+    let walked = walk::tally(tables, video.stand)?;
     let Some(w) = walked else {
         return Ok(None);
     };
-    aux(
-        tables,
-        place,
-        adapter,
-        1 + path_words(w.hops),
-    )
+    aux(tables, place, adapter, 1 + path_words(w.hops))
 }
 
 // A ring's tunnel of one path.
-fn one_path(words: usize, place: usize, adapter: u8, hop: u16, name: u8) -> Plan
-    ensures { result ≡ one_path words (start_by (at place adapter hop) name) }
+fn one_path(words: usize, start: Start) -> Plan
+    ensures { result ≡ one_path words start }
 {
     Plan {
         kind: TunnelType::Dma,
         closed: false,
         words,
         paths: 1,
-        first: starting(place, adapter, hop, name),
-        second: starting(place, adapter, hop, name),
-        third: starting(place, adapter, hop, name),
+        first: start,
+        second: start,
+        third: start,
     }
 }
 
 // A ring's tunnel without a DMA TX path, by what the search for its receive path came to.
-fn receive_alone(received: Result<Received, Refusal>) -> Result<Option<Plan>, Refusal>
+fn receive_alone(received: Result<Received, WalkError>) -> Result<Option<Plan>, WalkError>
     ensures { ((tables : Tables) (ring : ℕ) → Receives tables ring received → Draws tables 0 (λ x. ring_by x ring alone_plan) result) × (words_by result ≤ 1048576) × (paths_by result ≤ 3) }
 {
     let found = received?;
@@ -208,37 +195,45 @@ fn receive_alone(received: Result<Received, Refusal>) -> Result<Option<Plan>, Re
         Received::Lost => Ok(None),
         Received::Nothing => Ok(None),
         Received::Path(p) => {
-            let plan = one_path(1 + path_words(p.hops), p.place, p.adapter, p.hop, DMA_RX);
-            Ok(Some(plan))
+            let start = Start {
+                stand: p.start,
+                name: DMA_RX,
+            };
+            Ok(Some(one_path(1 + path_words(p.hops), start)))
         }
     }
 }
 
 // A ring's tunnel whose head and DMA TX path have so many words.
 fn receive_with(
-    place: usize,
-    adapter: u8,
-    ring: u16,
+    stand: Stand,
     words: usize,
-    received: Result<Received, Refusal>,
-) -> Result<Option<Plan>, Refusal>
+    received: Result<Received, WalkError>,
+) -> Result<Option<Plan>, WalkError>
     requires { words ≤ 131072 }
-    ensures { ((tables : Tables) → Receives tables ring received → Draws tables 0 (λ x. ring_by x ring (with_plan (at place adapter ring) words)) result) × (words_by result ≤ 1048576) × (paths_by result ≤ 3) }
+    ensures { ((tables : Tables) → Receives tables stand.hop_id received → Draws tables 0 (λ x. ring_by x stand.hop_id (with_plan stand words)) result) × (words_by result ≤ 1048576) × (paths_by result ≤ 3) }
 {
+    let tx = Start {
+        stand,
+        name: DMA_TX,
+    };
     let found = received?;
     match found {
         Received::Lost => Ok(None), // and its DMA TX path with it
-        Received::Nothing => Ok(Some(one_path(words, place, adapter, ring, DMA_TX))),
+        Received::Nothing => Ok(Some(one_path(words, tx))),
         Received::Path(p) => {
-            let all = words + path_words(p.hops);
+            let rx = Start {
+                stand: p.start,
+                name: DMA_RX,
+            };
             Ok(Some(Plan {
                 kind: TunnelType::Dma,
-                closed: same(p.out_place, p.out_adapter, place, adapter),
-                words: all,
+                closed: same(p.out_place, p.out_adapter, stand.place, stand.adapter),
+                words: words + path_words(p.hops),
                 paths: 2,
-                first: starting(place, adapter, ring, DMA_TX),
-                second: starting(p.place, p.adapter, p.hop, DMA_RX),
-                third: starting(p.place, p.adapter, p.hop, DMA_RX),
+                first: tx,
+                second: rx,
+                third: rx,
             }))
         }
     }
@@ -247,16 +242,14 @@ fn receive_with(
 // A ring's tunnel: DMA TX from the adapter, and the receive path of the ring, which was sought before. Refused first by the former.
 pub fn one_dma(
     tables: &Tables,
-    place: usize,
-    adapter: u8,
-    ring: u16,
-    received: Result<Received, Refusal>,
-) -> Result<Option<Plan>, Refusal>
-    ensures { RingPlans tables.now place adapter ring received result }
+    stand: Stand,
+    received: Result<Received, WalkError>,
+) -> Result<Option<Plan>, WalkError>
+    ensures { RingPlans tables.now stand.place stand.adapter stand.hop_id received result }
 {
-    let walked = walk::tally(tables, place, adapter, ring)?;
+    let walked = walk::tally(tables, stand)?;
     let Some(w) = walked else {
         return receive_alone(received);
     };
-    receive_with(place, adapter, ring, 1 + path_words(w.hops), received)
+    receive_with(stand, 1 + path_words(w.hops), received)
 }

@@ -5,11 +5,11 @@ use Rattle.tables.specs.Rows.{EntryRow, DeviceRow, Rows}
 use Rattle.tables.specs.Packed.{entries_in, entry_unit, adapter_unit, Sorted}
 use Rattle.tables.specs.Found.{EntrySought}
 use Rattle.load.specs.Answers.{asked_device}
-use Rattle.refusal.specs.Refusal.{refused_by}
+use Rattle.refusal.specs.Refusal.{refused_by, of_walk, is_given}
 use Rattle.walk.specs.Rule.{walk_from, WalkRule}
-use Rattle.adapter.specs.Paths.{entry_out}
+use Rattle.adapter.specs.declared.EntryOut.{EntryOut}
 use Rattle.walk.specs.declared.Walked.{Walked}
-use Rattle.refusal.specs.declared.Refusal.{Refusal}
+use Rattle.refusal.specs.declared.WalkError.{WalkError}
 use Rattle.tables.specs.declared.Stand.{Stand}
 use Rattle.tables.specs.declared.Tables.{Tables}
 use Rattle.tables.specs.Tables.{Tabled, rows_of}
@@ -38,46 +38,41 @@ leaves None = None
 leaves (Some hs) = leaving_of hs
 
 -- a path of n hops that leaves by adapter a of the device at place q with HopID h, as it is answered
-abbrev pub walked_to : ℕ → ℕ → ℕ → ℕ → Result (Option Walked) Refusal
+abbrev pub walked_to : ℕ → ℕ → ℕ → ℕ → Result (Option Walked) WalkError
 walked_to n q a h = Ok (Some (record { hops = n; place = q; adapter = a; hop = h }))
 
 -- document 01's number and values for what is answered, with the path's end, and with its number of hops alone
-unfoldable pub tally_outcome : Result (Option Walked) Refusal → Outcome (Option Leaving)
+unfoldable pub tally_outcome : Result (Option Walked) WalkError → Outcome (Option Leaving)
 tally_outcome (Ok (Some w)) = value (Some (record { hops = w.hops; place = w.place; adapter = w.adapter; hop_id = w.hop }))
 tally_outcome (Ok None) = value None
-tally_outcome (Err r) = refused_by r
+tally_outcome (Err e) = refused_by (of_walk e)
 
-unfoldable pub hops_outcome : Result (Option Walked) Refusal → Outcome (Option ℕ)
+unfoldable pub hops_outcome : Result (Option Walked) WalkError → Outcome (Option ℕ)
 hops_outcome (Ok (Some w)) = value (Some w.hops)
 hops_outcome (Ok None) = value None
-hops_outcome (Err r) = refused_by r
+hops_outcome (Err e) = refused_by (of_walk e)
 
-unfoldable pub hops_by : Result (Option Walked) Refusal → ℕ
+unfoldable pub hops_by : Result (Option Walked) WalkError → ℕ
 hops_by (Ok (Some w)) = w.hops
 hops_by (Ok None) = 0
 hops_by (Err r) = 0
-
-unfoldable pub is_path : Result (Option Walked) Refusal → Bool
-is_path (Ok (Some w)) = true
-is_path (Ok None) = false
-is_path (Err r) = false
 
 -- nothing is written, so nothing is needed
 unfoldable pub no_need : List EntryRow → ℕ
 no_need hs = 0
 
--- In tables in order it is how the walk ends. In any others it is free, but that a path has a hop, and no more than there are entries.
-pub record Tallied (tables : Tables) (s : Stand) (r : Result (Option Walked) Refusal) : Type 0 where
+-- In tables in order it is how the walk ends. In any others it is free, but that it is a fault or 14 where it is refused, that a path has a hop, and no more than there are entries.
+pub record Tallied (tables : Tables) (s : Stand) (r : Result (Option Walked) WalkError) : Type 0 where
   pub answers : Tabled tables → s.place < 65536 → tally_outcome r ≡ bind (walk_from (rows_of tables) s) (λ o. value (leaves o))
   pub past : 65535 < s.place → r ≡ (Ok None)
   pub few : hops_by r ≤ length tables.entries.now
-  pub one : is_path r ≡ ltb 0 (hops_by r)
+  pub one : is_given r ≡ ltb 0 (hops_by r)
   -- every start at a device that is there
   pub walks : Tabled tables → (d : DeviceRow) → asked_device (rows_of tables) s.place ≡ value d
       → WalkRule (rows_of tables) s no_need 0 (λ hs. tally_outcome r ≡ value (leaving_of hs)) (hops_outcome r)
 
 -- How each walk ends that starts at the device at place p and finds there an entry with this out adapter and out HopID. Where no walk finds such an entry it is free, but that a path has a hop, and no more than there are entries.
-pub record Onward (tables : Tables) (p out hop : ℕ) (r : Result (Option Walked) Refusal) : Type 0 where
-  pub ends : (a h : ℕ) → EntrySought tables.entries.now p a h (Some (entry_out out hop)) → Tallied tables (record { place = p; adapter = a; hop_id = h }) r
+pub record Onward (tables : Tables) (p : ℕ) (out : EntryOut) (r : Result (Option Walked) WalkError) : Type 0 where
+  pub ends : (a h : ℕ) → EntrySought tables.entries.now p a h (Some out) → Tallied tables (record { place = p; adapter = a; hop_id = h }) r
   pub few : hops_by r ≤ length tables.entries.now
-  pub one : is_path r ≡ ltb 0 (hops_by r)
+  pub one : is_given r ≡ ltb 0 (hops_by r)

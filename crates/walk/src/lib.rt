@@ -3,8 +3,10 @@
 
 ghost use Rattle.walk.specs.Tables.{Tallied, Onward};
 
+use adapter::EntryOut;
 use fabric::Next;
-use refusal::{Fault, Refusal};
+use refusal::{Fault, WalkError};
+use tables::{Stand, Tables};
 
 // A path's number of hops with its last hop's place, out adapter and out HopID.
 #[derive(Clone, Copy)]
@@ -16,48 +18,45 @@ pub struct Walked {
 }
 
 // How a walk ends whose first hop leaves the device at a place by an out adapter and HopID. A walk that is still going after as many hops as there are entries never ends.
-pub fn onward(
-    tables: &Tables,
-    place: usize,
-    out_adapter: u8,
-    out_hop: u16,
-) -> Result<Option<Walked>, Refusal>
-    ensures { Onward tables.now place out_adapter out_hop result }
+pub fn onward(tables: &Tables, place: usize, out: EntryOut) -> Result<Option<Walked>, WalkError>
+    ensures { Onward tables.now place out result }
 {
-    let mut left = entries.len();
+    let mut left = tables.entries.len();
     let mut hops: usize = 0;
     let mut p = place;
-    let mut out = out_adapter;
-    let mut h = out_hop;
+    let mut a = out.out_adapter;
+    let mut h = out.out_hop;
     loop {
         if left < 1 {
-            return Err(Refusal::Fault(Fault::Endless));
+            return Err(WalkError::Fault(Fault::Endless));
         }
         left -= 1;
         hops += 1;
-        let next = fabric::leads(tables, p, out)?;
+        let next = fabric::leads(tables, p, a)?;
         match next {
-            Next::On {
-                place: q,
-                adapter: b,
-            } => {
-                let Some(entry) = search::find_entry(entries, q, b, h) else {
+            Next::On { place, adapter } => {
+                let stand = Stand {
+                    place,
+                    adapter,
+                    hop_id: h,
+                };
+                let Some(entry) = search::find_entry(tables.entries, stand) else {
                     return Ok(Some(Walked {
                         hops,
                         place: p,
-                        adapter: out,
+                        adapter: a,
                         hop: h,
                     }));
                 };
-                p = q;
-                out = entry.out_adapter;
+                p = place;
+                a = entry.out_adapter;
                 h = entry.out_hop;
             }
             Next::Last => {
                 return Ok(Some(Walked {
                     hops,
                     place: p,
-                    adapter: out,
+                    adapter: a,
                     hop: h,
                 }));
             }
@@ -68,39 +67,12 @@ pub fn onward(
     }
 }
 
-// As `onward`. A function copies the slices that it hands on as it begins: this one does, so that a walk without a hop copies none.
-fn go_on(
-    tables: &Tables,
-    place: usize,
-    out_adapter: u8,
-    out_hop: u16,
-) -> Result<Option<Walked>, Refusal>
-    ensures { Onward tables.now place out_adapter out_hop result }
+// How the walk from where it stands ends. The first entry is looked for before the loop, so that a walk without one ends soon.
+pub fn tally(tables: &Tables, stand: Stand) -> Result<Option<Walked>, WalkError>
+    ensures { Tallied tables.now stand result }
 {
-    onward(
-        tables,
-        place,
-        out_adapter,
-        out_hop,
-    )
-}
-
-// How the walk from an adapter and HopID of the device at a place ends. The first entry is looked for before the loop, so that a walk without one ends soon.
-pub fn tally(
-    tables: &Tables,
-    place: usize,
-    adapter: u8,
-    hop: u16,
-) -> Result<Option<Walked>, Refusal>
-    ensures { Tallied tables.now (record { place = place; adapter = adapter; hop_id = hop }) result }
-{
-    let Some(entry) = search::find_entry(entries, place, adapter, hop) else {
+    let Some(entry) = search::find_entry(tables.entries, stand) else {
         return Ok(None);
     };
-    go_on(
-        tables,
-        place,
-        entry.out_adapter,
-        entry.out_hop,
-    )
+    onward(tables, stand.place, entry)
 }

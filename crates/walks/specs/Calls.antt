@@ -7,8 +7,7 @@ use Rattle.load.specs.Loading.{loaded}
 use Rattle.load.specs.Answers.{asked_adapter}
 use Rattle.walk.specs.Rule.{walk_from, in_room, WalkRule}
 use Rattle.path.specs.Words.{words_needed, with_path, output_by}
-use Rattle.path.specs.Put.{is_path}
-use Rattle.refusal.specs.Refusal.{outcome}
+use Rattle.refusal.specs.Refusal.{outcome, is_given}
 use Rattle.refusal.specs.declared.Refusal.{Refusal}
 use Rattle.tables.specs.declared.Stand.{Stand}
 
@@ -28,7 +27,7 @@ pub record WalkDone (t v : List ℕ) (s : Stand) (output : List ℕ) (r : Result
   pub answers : outcome r ≡ walk_answer t v s (length output)
   pub writes : output' ≡ output_by single (path_answer t v s) output
   -- what isn't a path is not written
-  pub kept : is_path r ≡ false → output' ≡ output
+  pub kept : is_given r ≡ false → output' ≡ output
   -- every accepted survey and every start in it
   pub walks : (x : Rows) (y : AdapterRow) → loaded t v ≡ value x → asked_adapter x s.place s.adapter ≡ value y
       → WalkRule x s (words_needed single) (length output) (λ hs. output' ≡ with_path single hs output) (outcome r)

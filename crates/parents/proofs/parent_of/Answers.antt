@@ -3,14 +3,14 @@ use mathlib.Core.Path.{◌∙◌}
 use Rattle.tables.specs.Found.{device_row}
 use Rattle.parents.proofs.parent_of.Goals as goal
 
-pub returns-then-number-eq1 : goal.returns-then-number-eq1
+pub returns-in-Router : goal.returns-in-Router
 unfolding device_row
-returns-then-number-eq1 c = record { is = λ k l. c.router_parent.ensures.is k l ∙ of_router _ _ _ _ c.kind_number-number.ensures c.if-number-eq1.true }
+returns-in-Router c = record { is = λ k l. c.router_parent.ensures.is k l ∙ of_router _ _ _ c.in-Router.is }
 
-pub returns-then-number-eq2 : goal.returns-then-number-eq2
+pub returns-in-Xdomain : goal.returns-in-Xdomain
 unfolding device_row
-returns-then-number-eq2 c = record { is = λ k l. c.xdomain_parent.ensures c.args.tables.now.adapters.now es ∙ of_xdomain _ _ _ _ c.kind_number-number.ensures c.if-number-eq2.true }
+returns-in-Xdomain c = record { is = λ k l. c.xdomain_parent.ensures ∙ of_xdomain _ _ _ c.in-Xdomain.is }
 
-pub returns : goal.returns
+pub returns-in_default : goal.returns-in_default
 unfolding device_row
-returns c = record { is = λ k l. of_other _ _ _ _ c.kind_number-number.ensures c.if-number-eq1.false c.if-number-eq2.false }
+returns-in_default c = record { is = λ k l. of_other _ _ _ c.in_default.not-Router c.in_default.not-Xdomain }

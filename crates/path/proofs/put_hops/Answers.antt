@@ -6,11 +6,11 @@ use Prim.Native.Nat.{◌+◌, ◌*◌, ◌-◌}
 use mathlib.Core.Path.{refl, ap, ◌∙◌}
 use native.Mathlib.Omega.{arith}
 use lib.ListN.{set, length-set}
-use Rattle.path.proofs.Writing.{stood, kept_start, kept_full, kept_missing, kept_on, kept_last}
+use Rattle.path.proofs.Writing.{kept_start, kept_full, kept_missing, kept_on, kept_last}
 use Rattle.path.proofs.put_hops.Goals as goal
 
 pub loop-i-init : goal.loop-i-init
-loop-i-init c = kept_start _ (stood c.args.place c.args.adapter c.args.hop) _ (omega (arith, c.ranges)) c.requires
+loop-i-init c = kept_start _ c.args.stand _ (omega arith) c.requires
 
 pub shape_of-output-in_default : goal.shape_of-output-in_default
 shape_of-output-in_default c = c.loop-i.invariant.long

@@ -18,25 +18,25 @@ pub returns-then-not-taken : goal.returns-then-not-taken
 unfolding lane_outcome rows_of device_row device_found
 returns-then-not-taken c = record { is = λ k. lane_left _ _ _ (ap (device_found _) (sym c.in-Some.is) ∙ c.find_device.ensures) (sym (c.taken.ensures _) ∙ not-true c.taken.result (ap (λ b. not b) c.if-not-taken.true)) }
 
-pub returns-in_err-parent : goal.returns-in_err-parent
+pub returns-in_err-q : goal.returns-in_err-q
 unfolding lane_outcome rows_of device_row device_found
-returns-in_err-parent c =
+returns-in_err-q c =
     let p = err_from_is_err_and c.from_residual.result c.from_residual.ensures.1 in
     rw (p.1, p.2) record {
       is = λ k. let at = (ap (device_found _) (sym c.in-Some.is) ∙ c.find_device.ensures) in
-          lane_refused _ _ _ at (sym (c.taken.ensures _) ∙ not-false c.taken.result (ap (λ b. not b) c.if-not-taken.false)) _ (c.parent_of.ensures.is k (device_fits _ _ _ k at)) _ c.in_err-parent.was;
+          lane_refused _ _ _ at (sym (c.taken.ensures _) ∙ not-false c.taken.result (ap (λ b. not b) c.if-not-taken.false)) _ (c.parent_of.ensures.is k (device_fits _ _ _ k at)) _ c.in_err-q.was;
     }
 
-pub returns-in_default-parent : goal.returns-in_default-parent
+pub returns-in_default-2 : goal.returns-in_default-2
 unfolding lane_outcome rows_of device_row device_found
-returns-in_default-parent c = record {
+returns-in_default-2 c = record {
   is = λ k. let at = (ap (device_found _) (sym c.in-Some.is) ∙ c.find_device.ensures) in
-      lane_alone _ _ _ at (sym (c.taken.ensures _) ∙ not-false c.taken.result (ap (λ b. not b) c.if-not-taken.false)) _ (c.parent_of.ensures.is k (device_fits _ _ _ k at)) (c.in_ok-parent.was ∙ ap Ok c.in_default-parent.is);
+      lane_alone _ _ _ at (sym (c.taken.ensures _) ∙ not-false c.taken.result (ap (λ b. not b) c.if-not-taken.false)) _ (c.parent_of.ensures.is k (device_fits _ _ _ k at)) (c.in_ok-q.was ∙ ap Ok c.in_default-2.is);
 }
 
 pub returns : goal.returns
 unfolding lane_outcome rows_of device_row device_found
 returns c = record {
   is = λ k. let at = (ap (device_found _) (sym c.in-Some.is) ∙ c.find_device.ensures) in
-      lane_under _ _ _ at (sym (c.taken.ensures _) ∙ not-false c.taken.result (ap (λ b. not b) c.if-not-taken.false)) _ (c.parent_of.ensures.is k (device_fits _ _ _ k at)) _ (c.in_ok-parent.was ∙ ap Ok c.in-Some-parent.is) ((c.beneath.ensures c.args.place).is k es);
+      lane_under _ _ _ at (sym (c.taken.ensures _) ∙ not-false c.taken.result (ap (λ b. not b) c.if-not-taken.false)) _ (c.parent_of.ensures.is k (device_fits _ _ _ k at)) _ (c.in_ok-q.was ∙ ap Ok c.in-Some-2.is) ((c.beneath.ensures c.args.place).is k);
 }

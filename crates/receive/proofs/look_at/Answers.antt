@@ -2,6 +2,7 @@ use Rattle.std.specs.Prelude.{Ok}
 use Rattle.std.proofs.lemmas.Result.{err_from_is_err_and}
 use mathlib.Core.Path.{◌∙◌, ap}
 use native.Mathlib.Omega.{arith}
+use Rattle.receive.specs.Receive.{at}
 use Rattle.receive.proofs.Looking.{looked_large, looked_over, looked_past, looked_absent, looked_refused, looked_other, looked_fits}
 use Rattle.receive.proofs.look_at.Goals as goal
 
@@ -27,4 +28,5 @@ pub returns-in_default-walked : goal.returns-in_default-walked
 returns-in_default-walked c = looked_absent _ _ _ _ _ _ c.next_hop.ensures c.in-Some.is c.if-most-at.false c.onward.ensures (c.in_ok-walked.was ∙ ap Ok c.in_default-walked.is)
 
 pub returns : goal.returns
+unfolding at
 returns c = looked_fits _ _ _ _ _ _ c.next_hop.ensures c.in-Some.is c.if-most-at.false c.onward.ensures _ _ _ _ (c.in_ok-walked.was ∙ ap Ok c.in-Some-walked.is) c.if-w-ring.false

@@ -15,9 +15,6 @@ returns-in-Err c = seek_refused _ _ c.loop-i.invariant.0 c.lane_of.ensures _ c.i
 pub returns-in-Ok-Dropped : goal.returns-in-Ok-Dropped
 returns-in-Ok-Dropped c = seek_lost _ _ c.loop-i.invariant.0 c.lane_of.ensures (c.in-Ok-Dropped.is ∙ ap Ok c.in-Ok-Dropped.field-0-is)
 
-pub loop-i-preserved-in-Ok-Passed : goal.loop-i-preserved-in-Ok-Passed
-loop-i-preserved-in-Ok-Passed c = (seek_passed _ _ c.loop-i.invariant.0 c.lane_of.ensures (c.in-Ok-Passed.is ∙ ap Ok c.in-Ok-Passed.field-0-is), c.loop-i.invariant.1)
-
 pub loop-hop-init : goal.loop-hop-init
 loop-hop-init c = (seek_at _ _ c.loop-i.invariant.0 c.lane_of.ensures _ _ _ _ (c.in-Ok-At.is ∙ ap Ok c.in-Ok-At.field-0-is), refl)
 
@@ -36,6 +33,9 @@ loop-hop-preserved c = (among_past _ _ c.loop-hop.invariant.0 c.look_at.ensures 
 pub returns-in-Err-look_at : goal.returns-in-Err-look_at
 returns-in-Err-look_at c = among_refused _ _ c.loop-hop.invariant.0 c.look_at.ensures _ c.in-Err-look_at.is
 
+pub loop-i-preserved-in-Ok-Passed : goal.loop-i-preserved-in-Ok-Passed
+loop-i-preserved-in-Ok-Passed c = (seek_passed _ _ c.loop-i.invariant.0 c.lane_of.ensures (c.in-Ok-Passed.is ∙ ap Ok c.in-Ok-Passed.field-0-is), c.loop-i.invariant.1)
+
 pub loop-i-preserved : goal.loop-i-preserved
 loop-i-preserved c = (
   (elim c.loop-hop-test.branch [
@@ -46,7 +46,7 @@ loop-i-preserved c = (
 )
 
 pub returns : goal.returns
-returns c = seek_end _ _ c.loop-i.invariant.0 c.loop-i-test.false
+returns c = seek_end _ _ c.loop-i.invariant.0 (omega arith)
 
 pub returns-in-Ok-Fits : goal.returns-in-Ok-Fits
 returns-in-Ok-Fits c = among_fits _ _ c.loop-hop.invariant.0 c.look_at.ensures _ (c.in-Ok-Fits.is ∙ ap Ok c.in-Ok-Fits.field-0-is)

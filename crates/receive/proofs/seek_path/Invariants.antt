@@ -12,6 +12,3 @@ decreases-loop-hop l = 65536 - l.hop
 
 abbrev pub invariant-loop-i : goal.invariant-loop-i
 invariant-loop-i l = Seeking l.tables l.ring l.i l.noted l.notes × (length l.notes ≡ length l.initial.notes)
-
-abbrev pub decreases-loop-i : goal.decreases-loop-i
-decreases-loop-i l = length l.tables.routes.now - l.i

@@ -1,17 +1,22 @@
 use Rattle.std.specs.Prelude.{Ok}
 use Rattle.std.proofs.lemmas.Result.{err_from_is_err_and}
-use mathlib.Core.Path.{◌∙◌, ap}
+use mathlib.Core.Path.{◌∙◌, ap, subst}
+use Rattle.receive.specs.Receive.{at}
+use Rattle.walk.specs.Tables.{Tallied}
 use Rattle.tunnel.proofs.Planning.{down_refused, down_absent, down_path}
 use Rattle.tunnel.proofs.down_and_up.Goals as goal
 
 pub returns-in_err-walked : goal.returns-in_err-walked
+unfolding at
 returns-in_err-walked c =
     let p = err_from_is_err_and c.from_residual.result c.from_residual.ensures.1 in
-    rw (p.1, p.2) (down_refused _ _ _ _ _ _ _ c.tally.ensures _ c.in_err-walked.was)
+    rw (p.1, p.2) (down_refused _ _ _ _ _ _ _ (subst (λ s. Tallied c.args.tables.now s.stand c.tally.result) c.starting-first.ensures c.tally.ensures) _ c.in_err-walked.was)
 
 pub returns-in_default : goal.returns-in_default
-returns-in_default c = down_absent _ _ _ _ _ _ _ c.tally.ensures (c.in_ok-walked.was ∙ ap Ok c.in_default.is)
+unfolding at
+returns-in_default c = down_absent _ _ _ _ _ _ _ (subst (λ s. Tallied c.args.tables.now s.stand c.tally.result) c.starting-first.ensures c.tally.ensures) (c.in_ok-walked.was ∙ ap Ok c.in_default.is)
 
 pub returns : goal.returns
-returns c = down_path _ _ _ _ _ _ _ c.tally.ensures _ _ _ _ _ _ _ _ _ (c.in_ok-walked.was ∙ ap Ok c.in-Some.is) c.path_words.ensures
-    c.starting.ensures c.starting-2.ensures c.starting-3.ensures c.finish.ensures
+unfolding at
+returns c = down_path _ _ _ _ _ _ _ (subst (λ s. Tallied c.args.tables.now s.stand c.tally.result) c.starting-first.ensures c.tally.ensures) _ _ _ _ _ _ _ _ _ (c.in_ok-walked.was ∙ ap Ok c.in-Some.is) c.path_words.ensures
+    c.starting-first.ensures c.starting-last.ensures c.starting-last.ensures c.finish.ensures

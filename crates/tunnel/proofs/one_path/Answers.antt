@@ -1,5 +1,7 @@
-use Rattle.tunnel.proofs.Planning.{one_answer}
+use mathlib.Core.Path.{refl}
+use Rattle.tunnel.specs.Work.{one_path}
 use Rattle.tunnel.proofs.one_path.Goals as goal
 
 pub returns : goal.returns
-returns c = one_answer _ _ c.starting.ensures c.starting-2.ensures c.starting-3.ensures
+unfolding one_path
+returns c = refl

@@ -21,4 +21,4 @@ unfolding words_by paths_by
 returns-in-Nothing c = (λ tables ring f. alone_nothing tables ring _ f (c.in_ok-found.was ∙ ap Ok c.in-Nothing.is), omega arith, omega arith)
 
 pub returns-in-Path : goal.returns-in-Path
-returns-in-Path c = let b = one_bounds _ _ _ c.one_path-plan.ensures (omega (arith, c.path_words.ensures.0)) in (λ tables ring f. alone_path tables ring _ f _ _ _ _ _ _ _ _ (c.in_ok-found.was ∙ ap Ok c.in-Path.is) c.path_words.ensures c.one_path-plan.ensures, b.0, b.1)
+returns-in-Path c = let b = one_bounds _ _ _ c.one_path.ensures (omega (arith, c.path_words.ensures.0)) in (λ tables ring f. alone_path tables ring _ f _ _ _ _ _ _ (c.in_ok-found.was ∙ ap Ok c.in-Path.is) c.path_words.ensures c.one_path.ensures, b.0, b.1)

@@ -14,16 +14,16 @@ returns-in_err-found c =
 
 pub returns-in-Lost : goal.returns-in-Lost
 unfolding words_by paths_by
-returns-in-Lost c = (λ tables f. with_lost tables _ _ f _ _ _ c.requires (c.in_ok-found.was ∙ ap Ok c.in-Lost.is), omega arith, omega arith)
+returns-in-Lost c = (λ tables f. with_lost tables _ _ f _ _ c.requires (c.in_ok-found.was ∙ ap Ok c.in-Lost.is), omega arith, omega arith)
 
 pub returns-in-Nothing : goal.returns-in-Nothing
-returns-in-Nothing c = let b = one_bounds _ _ _ c.one_path.ensures (omega (arith, c.requires)) in (λ tables f. with_nothing tables _ _ f _ _ _ c.requires _ (c.in_ok-found.was ∙ ap Ok c.in-Nothing.is) c.one_path.ensures, b.0, b.1)
+returns-in-Nothing c = let b = one_bounds _ _ _ c.one_path.ensures (omega (arith, c.requires)) in (λ tables f. with_nothing tables _ _ f _ _ c.requires _ (c.in_ok-found.was ∙ ap Ok c.in-Nothing.is) c.one_path.ensures, b.0, b.1)
 
 pub returns-in-Path : goal.returns-in-Path
 unfolding words_by paths_by
 returns-in-Path c = (
   λ tables f.
-      with_path_lem tables _ _ f _ _ _ c.requires _ _ _ _ _ _ _ _ _ _ _ (c.in_ok-found.was ∙ ap Ok c.in-Path.is) c.path_words.ensures c.same.ensures c.starting.ensures c.starting-in-Path.ensures,
+      with_path_lem tables _ _ f _ _ c.requires _ _ _ _ _ _ (c.in_ok-found.was ∙ ap Ok c.in-Path.is) c.path_words.ensures c.same.ensures,
   omega (arith, c.path_words.ensures.0, c.requires),
   omega arith,
 )

@@ -5,4 +5,4 @@ pub returns-in_default : goal.returns-in_default
 returns-in_default c = absent _ _ c.find_entry.ensures c.in_default.is
 
 pub returns : goal.returns
-returns c = walks_on _ _ c.find_entry.ensures c.in-Some.is c.go_on.ensures
+returns c = walks_on _ _ c.find_entry.ensures c.in-Some.is c.onward.ensures

@@ -1,5 +1,0 @@
-use Rattle.receive.proofs.Search.{in_room_lem}
-use Rattle.receive.proofs.receive_far.Goals as goal
-
-pub returns : goal.returns
-returns c = let s = c.seek_path-sought in in_room_lem _ _ s.ensures s.auto.notes
