@@ -67,11 +67,6 @@ module _ {A : Type 0} (o : Option A) (q : Result A Refusal) (is : q ≡ ok_or o 
       go None f = absurd cc
       go (Some b) f = cc
 
--- a router's upstream adapter, or that there is none, where that is known
-pub upstream_known : (s : Site) (o : Option ℕ) → field_at s (Ok o) ≡ value o
-upstream_known s None = refl
-upstream_known s (Some a) = refl
-
 -- a device that is there has a place that fits a key
 pub place_fits : (t : Tables) (p : ℕ) (x : DeviceRow) → length t.routes.now ≤ 65536 → Some x ≡ device_in (devices_in t.routes.now t.marks.now) p → p < 65536
 place_fits t p x u f = go (dec_lt p 65536)
