@@ -32,13 +32,11 @@ fn find_row(
     ensures { row_outcome place result ≡ row_answer descriptions.now survey.now place number }
 {
     let loaded = load::load(descriptions, survey);
-    let answer = loaded.answer;
-    let counts = answer?;
-    if counts.devices <= place {
+    let tables = loaded.tables()?;
+    if tables.routes.len() <= place {
         return Err(Refusal::Missing);
     }
-    let table = loaded.adapters;
-    search::find_adapter(&table[..counts.adapters], place, number).ok_or(Refusal::Missing)
+    search::find_adapter(tables.adapters, place, number).ok_or(Refusal::Missing)
 }
 
 // Whether an adapter of a kind in a state is enabled: a host interface always, another protocol adapter by its state.

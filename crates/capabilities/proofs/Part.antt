@@ -1,5 +1,5 @@
 -- Laws on what a loaded survey answers of an adapter's capability part. Assumes nothing.
-use Rattle.std.specs.Prelude.{None, Some, Option, Err, Ok}
+use Rattle.std.specs.Prelude.{None, Some, Option, Err, Ok, Result}
 use Prim.Native.Nat.{ℕ}
 use mathlib.Core.Path.{◌≡◌, sym, ap, ◌∙◌}
 use mathlib.Core.List.{List}
@@ -8,30 +8,29 @@ use Rattle.survey.specs.Devices.{Adapter, devices_of}
 use Rattle.listing.specs.After.{adapter_at}
 use Rattle.adapter.specs.Adapter.{registers_of, find_cap}
 use Rattle.adapter.specs.declared.Part.{Part}
-use Rattle.load.proofs.Result.{load_refused, load_tables}
+use Rattle.load.proofs.Result.{accept_ended, accept_gone_on}
 use Rattle.load.specs.Loading.{loaded}
-use Rattle.load.specs.Answers.{loaded_rows, present}
+use Rattle.load.specs.Answers.{present, counts_of}
 use Rattle.refusal.specs.Refusal.{outcome}
 use Rattle.refusal.specs.declared.Refusal.{Refusal}
 use Rattle.refusal.specs.declared.Refusal.TheVariants as refusal
-use Rattle.load.specs.declared.Loaded.{Loaded}
+use Rattle.load.specs.declared.Counts.{Counts}
 use Rattle.capabilities.specs.Capability.{said_adapter, capability_answer}
 use Rattle.capabilities.specs.Work.{head_outcome}
-use Rattle.load.specs.Answers.{counted}
 
-module _ (l : Loaded) (t s : List ℕ) (q : loaded_rows l ≡ loaded t s) (p n c : ℕ) where
+module _ (q : Result Counts Refusal) (t s : List ℕ) (same : outcome q ≡ bind (loaded t s) (λ x. value (counts_of x))) (p n c : ℕ) where
   abbrev part : Option Adapter → Outcome (Option Part)
   part o = bind (present o) (λ y. value (find_cap c (registers_of y)))
 
-  pub cap_refused : (r : Refusal) → l.answer ≡ Err r → outcome (Err r) ≡ capability_answer t s p n c
+  pub cap_refused : (r : Refusal) → q ≡ Err r → outcome (Err r) ≡ capability_answer t s p n c
   unfolding capability_answer
-  cap_refused r k = load_refused l t s q (λ x. part (said_adapter (devices_of s) p n)) r k
+  cap_refused r k = accept_ended q _ same (λ x. part (said_adapter (devices_of s) p n)) r k
 
   -- of a head that was looked for
-  module _ (e a d : ℕ) (k : l.answer ≡ counted e a d) (f : Option ℕ) (g : head_outcome s f ≡ said_adapter (devices_of s) p n) where
+  module _ (x : Counts) (k : q ≡ Ok x) (f : Option ℕ) (g : head_outcome s f ≡ said_adapter (devices_of s) p n) where
     to_cap : part (head_outcome s f) ≡ capability_answer t s p n c
     unfolding capability_answer
-    to_cap = ap (λ o. part o) g ∙ load_tables l t s q (λ x. part (said_adapter (devices_of s) p n)) e a d k
+    to_cap = ap (λ o. part o) g ∙ accept_gone_on q _ same (λ x. part (said_adapter (devices_of s) p n)) x k
 
     pub cap_nowhere : f ≡ None → outcome (Err refusal.Missing) ≡ capability_answer t s p n c
     unfolding head_outcome present bind

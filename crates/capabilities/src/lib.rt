@@ -59,9 +59,7 @@ pub fn capability(
 ) -> Result<Option<Part>, Refusal>
     ensures { outcome result ≡ capability_answer descriptions.now survey.now place number cap }
 {
-    let loaded = load::load(descriptions, survey);
-    let answer = loaded.answer;
-    answer?;
+    load::accept(descriptions, survey)?;
     let Some(at) = find_head(survey, place, number) else {
         return Err(Refusal::Missing);
     };

@@ -13,17 +13,10 @@ use Rattle.devices.specs.declared.DeviceInfo.{DeviceInfo}
 use Rattle.refusal.specs.declared.Refusal.{Refusal}
 
 -- what is said of a device that was loaded
-pub record Info : Type 0 where
-  pub kind : Kind
-  pub usb4 : Bool
-  pub domain : ℕ
-  pub route : ℕ
-  pub depth : ℕ
-
-unfoldable pub info_of : DeviceRow → Info
+unfoldable pub info_of : DeviceRow → DeviceInfo
 info_of d = record { kind = d.kind; usb4 = d.usb4; domain = d.domain; route = d.route; depth = depth_of d.route }
 
-unfoldable pub device_answer : List ℕ → List ℕ → ℕ → Outcome Info
+unfoldable pub device_answer : List ℕ → List ℕ → ℕ → Outcome DeviceInfo
 device_answer t s p = bind (loaded t s) (λ x. bind (asked_device x p) (λ d. value (info_of d)))
 
 -- `upstream_adapter`, or 6
@@ -39,11 +32,3 @@ upstream_route_answer t s p a = on_adapter t s p a (upstream_route_of p)
 
 unfoldable pub downstream_route_answer : List ℕ → List ℕ → ℕ → ℕ → Outcome (Option ℕ)
 downstream_route_answer t s p a = on_adapter t s p a (downstream_route_of p)
-
--- document 01's number and values for what the calls answer
-unfoldable pub info_in : DeviceInfo → Info
-info_in i = record { kind = i.kind; usb4 = i.usb4; domain = i.domain; route = i.route; depth = i.depth }
-
-unfoldable pub device_outcome : Result DeviceInfo Refusal → Outcome Info
-device_outcome (Ok i) = value (info_in i)
-device_outcome (Err r) = refused_by r

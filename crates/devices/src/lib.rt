@@ -2,7 +2,7 @@
 #![tactic(auto)]
 
 ghost use Rattle.std.specs.Prelude.{◌≡◌};
-ghost use Rattle.devices.specs.Calls.{device_answer, upstream_answer, device_outcome};
+ghost use Rattle.devices.specs.Calls.{device_answer, upstream_answer};
 ghost use Rattle.devices.specs.Work.{read_device, read_outcome};
 ghost use Rattle.refusal.specs.Refusal.{outcome};
 
@@ -33,17 +33,13 @@ fn read_device(descriptions: &[u32], survey: &[u32], place: usize) -> Result<Dev
     ensures { read_outcome place result ≡ read_device descriptions.now survey.now place }
 {
     let loaded = load::load(descriptions, survey);
-    let answer = loaded.answer;
-    let counts = answer?;
-    let devices = counts.devices;
-    let routes = loaded.routes;
-    let marks = loaded.marks;
-    routers::find_device(&routes[..devices], &marks[..devices], place).ok_or(Refusal::Missing)
+    let tables = loaded.tables()?;
+    routers::find_device(&tables, place).ok_or(Refusal::Missing)
 }
 
 // Kind, USB4, domain, route and depth.
 pub fn device(descriptions: &[u32], survey: &[u32], place: usize) -> Result<DeviceInfo, Refusal>
-    ensures { device_outcome result ≡ device_answer descriptions.now survey.now place }
+    ensures { outcome result ≡ device_answer descriptions.now survey.now place }
 {
     let d = read_device(descriptions, survey, place)?;
     Ok(DeviceInfo {

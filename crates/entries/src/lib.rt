@@ -6,6 +6,7 @@ ghost use Rattle.adapters.specs.Calls.{path_answer, path_outcome};
 
 use adapter::EntryOut;
 use refusal::Refusal;
+use tables::Stand;
 
 // The first valid entry for a HopID.
 pub fn path(
@@ -18,16 +19,18 @@ pub fn path(
     ensures { path_outcome place number in_hop result ≡ path_answer descriptions.now survey.now place number in_hop }
 {
     let loaded = load::load(descriptions, survey);
-    let answer = loaded.answer;
-    let counts = answer?;
-    if counts.devices <= place {
+    let tables = loaded.tables()?;
+    if tables.routes.len() <= place {
         return Err(Refusal::Missing);
     }
-    let table = loaded.adapters;
-    let Some(_) = search::find_adapter(&table[..counts.adapters], place, number) else {
+    let Some(_) = search::find_adapter(tables.adapters, place, number) else {
         return Err(Refusal::Missing);
     };
-    let rows = loaded.entries;
-    let found = search::find_entry(&rows[..counts.entries], place, number, in_hop);
+    let stand = Stand {
+        place,
+        adapter: number,
+        hop_id: in_hop,
+    };
+    let found = search::find_entry(tables.entries, stand);
     Ok(found)
 }

@@ -8,10 +8,9 @@ use lib.Seq.{length-take-le}
 use Rattle.refusal.specs.Outcome.{Outcome, value, bind}
 use Rattle.tables.specs.Rows.{Rows}
 use Rattle.tables.specs.Packed.{entry_word, adapter_word, entries_in, adapters_in, devices_from, devices_in}
-use Rattle.load.specs.Answers.{rows_by, counts_of}
+use Rattle.load.specs.Answers.{rows_by, UsedBy, counts_of}
 use Rattle.load.specs.declared.Counts.{Counts}
 use Rattle.refusal.specs.Refusal.{outcome}
-use Rattle.load.specs.Work.{IntoWithin}
 use Rattle.refusal.proofs.Laws.{refused_bind}
 use Rattle.refusal.specs.declared.Refusal.{Refusal}
 use Rattle.std.specs.Prelude.{Err, Ok, Result}
@@ -35,13 +34,13 @@ module _ (en ad ro ma : List ℕ) (le : length en ≡ 4096) (la : length ad ≡ 
       let g = length-take-le d ma (omega (arith, lm, h)) in
       devices_length 0 (take d ro) (take d ma) (f ∙ sym g) ∙ f
 
-  counted_lem : (r : Result Counts Refusal) → IntoWithin r → outcome r ≡ bind (rows_by en ad ro ma r) (λ x. value (counts_of x))
-  unfolding counts_of rows_by IntoWithin bind
-  counted_lem (Ok c) (x, y, z) =
-      ap (λ k. value (record { entries = k; adapters = c.adapters; devices = c.devices })) (sym (entry_count c.entries x))
-      ∙ ap (λ k. value (record { entries = length (entries_in (take c.entries en)); adapters = k; devices = c.devices })) (sym (adapter_count c.adapters y))
-      ∙ ap (λ k. value (record { entries = length (entries_in (take c.entries en)); adapters = length (adapters_in (take c.adapters ad)); devices = k })) (sym (device_count c.devices z))
-  counted_lem (Err r) w = sym (refused_bind r (λ x. value (counts_of x)))
+  counted_lem : (r : Result Counts Refusal) → UsedBy en ad r → outcome r ≡ bind (rows_by en ad ro ma r) (λ x. value (counts_of x))
+  unfolding counts_of rows_by UsedBy bind
+  counted_lem (Ok c) u =
+      ap (λ k. value (record { entries = k; adapters = c.adapters; devices = c.devices })) (sym (entry_count c.entries u.entries))
+      ∙ ap (λ k. value (record { entries = length (entries_in (take c.entries en)); adapters = k; devices = c.devices })) (sym (adapter_count c.adapters u.adapters))
+      ∙ ap (λ k. value (record { entries = length (entries_in (take c.entries en)); adapters = length (adapters_in (take c.adapters ad)); devices = k })) (sym (device_count c.devices u.devices))
+  counted_lem (Err r) u = sym (refused_bind r (λ x. value (counts_of x)))
 
-  pub counted_into : (r : Result Counts Refusal) (o : Outcome Rows) → rows_by en ad ro ma r ≡ o → IntoWithin r → outcome r ≡ bind o (λ x. value (counts_of x))
-  counted_into r o e w = counted_lem r w ∙ ap (λ z. bind z (λ x. value (counts_of x))) e
+  pub counted : (r : Result Counts Refusal) (o : Outcome Rows) → rows_by en ad ro ma r ≡ o → UsedBy en ad r → outcome r ≡ bind o (λ x. value (counts_of x))
+  counted r o e u = counted_lem r u ∙ ap (λ z. bind z (λ x. value (counts_of x))) e

@@ -1,21 +1,21 @@
 -- Laws for the calls that load a survey and go on with its tables. Assumes nothing.
 use Prim.Native.Nat.{ℕ}
 use native.Mathlib.Omega.{arith}
-use mathlib.Core.Path.{◌≡◌, sym, ap, ◌∙◌, subst}
+use mathlib.Core.Path.{◌≡◌, refl, sym, ap, ◌∙◌, subst}
 use mathlib.Core.List.{List}
 use lib.ListN.{length, take}
 use lib.Seq.{length-take-le}
 use Rattle.std.specs.Prelude.{Result, Ok, Err, IfOk}
 use Rattle.std.proofs.lemmas.Result.{IfOk-at_ok}
-use Rattle.refusal.specs.Outcome.{Outcome, bind}
+use Rattle.refusal.specs.Outcome.{Outcome, refused, value, bind}
 use Rattle.refusal.specs.Refusal.{outcome}
 use Rattle.refusal.specs.declared.Refusal.{Refusal}
-use Rattle.refusal.proofs.Laws.{refused_bind}
+use Rattle.refusal.proofs.Laws.{refused_bind, ended, gone_on}
 use Rattle.tables.specs.Rows.{Rows}
 use Rattle.tables.specs.Packed.{entry_unit, adapter_unit, Sorted}
 use Rattle.tables.specs.Tables.{rows_of, Fits, Tabled}
 use Rattle.tables.specs.declared.Tables.{Tables}
-use Rattle.load.specs.Answers.{rows_by, Used, UsedBy, tables_rows}
+use Rattle.load.specs.Answers.{rows_by, Used, UsedBy, tables_rows, counts_of}
 use Rattle.load.specs.declared.Counts.{Counts}
 
 -- the parts of the tables that are used, by the invariant
@@ -57,3 +57,22 @@ module _ {B : Type 0} (q : Result Tables Refusal) (o : Outcome Rows) (is : table
 -- tables that were answered are in order, and no larger than a survey's
 pub tables_fit : (q : Result Tables Refusal) (t : Tables) → q ≡ Ok t → IfOk q (λ t. Fits t × Tabled t) → Fits t × Tabled t
 tables_fit q t k h = IfOk-at_ok _ k h
+
+pub tables_marks : (q : Result Tables Refusal) (t : Tables) → q ≡ Ok t → IfOk q (λ t. length t.marks.now ≡ length t.routes.now) → length t.marks.now ≡ length t.routes.now
+tables_marks q t k h = IfOk-at_ok _ k h
+
+-- what `?` does of `accept`, by what the survey loads to
+module _ {B : Type 0} (q : Result Counts Refusal) (o : Outcome Rows) (is : outcome q ≡ bind o (λ x. value (counts_of x))) (f : Counts → Outcome B) where
+  of_counts : bind (bind o (λ x. value (counts_of x))) f ≡ bind o (λ x. f (counts_of x))
+  unfolding bind
+  of_counts = go o
+    where
+      go : (w : Outcome Rows) → bind (bind w (λ x. value (counts_of x))) f ≡ bind w (λ x. f (counts_of x))
+      go (refused n vs) = refl
+      go (value x) = refl
+
+  pub accept_ended : (r : Refusal) → q ≡ Err r → outcome (Err r) ≡ bind o (λ x. f (counts_of x))
+  accept_ended r k = ended q _ is f r k ∙ of_counts
+
+  pub accept_gone_on : (c : Counts) → q ≡ Ok c → f c ≡ bind o (λ x. f (counts_of x))
+  accept_gone_on c k = sym (gone_on q _ is f c k) ∙ of_counts

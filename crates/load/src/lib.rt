@@ -63,6 +63,7 @@ impl Loaded {
     pub fn tables(&self) -> Result<Tables<'_>, Refusal>
         ensures rows { tables_rows result ≡ self.now }
         ensures fits { IfOk result (λ t. Fits t × Tabled t) }
+        ensures marks { IfOk result (λ t. length t.marks.now ≡ length t.routes.now) }
     {
         let counts = self.answer?;
         Ok(Tables {
@@ -581,6 +582,8 @@ fn fill(
 }
 
 // 3, then 4, then loading, into tables that have room for any survey.
+// It stays a call: `load` is then small enough to be taken into its callers, and hands out tables without a copy (10.7 us where it is 22, a survey of 101 words and one search).
+#[inline(never)]
 fn load_into(
     descriptions: &[u32],
     survey: &[u32],
@@ -602,41 +605,27 @@ fn load_into(
 pub fn load(descriptions: &[u32], survey: &[u32]) -> Loaded
     ensures { result ≡ loaded descriptions.now survey.now }
 {
-    let mut entries = [0u64; 4096];
-    let mut adapters = [0u64; 16384];
-    let mut routes = [0u64; 4096];
-    let mut marks = [0u64; 4096];
-    let answer = load_into(
+    let mut loaded = Loaded {
+        answer: Err(Refusal::Missing),
+        entries: [0; 4096],
+        adapters: [0; 16384],
+        routes: [0; 4096],
+        marks: [0; 4096],
+    };
+    loaded.answer = load_into(
         descriptions,
         survey,
-        &mut entries,
-        &mut adapters,
-        &mut routes,
-        &mut marks,
+        &mut loaded.entries,
+        &mut loaded.adapters,
+        &mut loaded.routes,
+        &mut loaded.marks,
     );
-    Loaded {
-        answer,
-        entries,
-        adapters,
-        routes,
-        marks,
-    }
+    loaded
 }
 
-// How many rows of each kind a survey loads to, or why it is refused: as `load`, with no tables to hand out.
+// How many rows of each kind a survey loads to, or why it is refused.
 pub fn accept(descriptions: &[u32], survey: &[u32]) -> Result<Counts, Refusal>
     ensures { outcome result ≡ bind (loaded descriptions.now survey.now) (λ x. value (counts_of x)) }
 {
-    let mut entries = [0u64; 4096];
-    let mut adapters = [0u64; 16384];
-    let mut routes = [0u64; 4096];
-    let mut marks = [0u64; 4096];
-    load_into(
-        descriptions,
-        survey,
-        &mut entries,
-        &mut adapters,
-        &mut routes,
-        &mut marks,
-    )
+    load(descriptions, survey).answer
 }

@@ -19,16 +19,9 @@ fn read_pair(
     ensures { pair_outcome place result ≡ read_pair descriptions.now survey.now place number }
 {
     let loaded = load::load(descriptions, survey);
-    let answer = loaded.answer;
-    let counts = answer?;
-    let devices = counts.devices;
-    let adapters = counts.adapters;
-    let routes = loaded.routes;
-    let marks = loaded.marks;
-    let found = routers::find_device(&routes[..devices], &marks[..devices], place);
-    let device = found.ok_or(Refusal::Missing)?;
-    let table = loaded.adapters;
-    let adapter = search::find_adapter(&table[..adapters], place, number).ok_or(Refusal::Missing)?;
+    let tables = loaded.tables()?;
+    let device = routers::find_device(&tables, place).ok_or(Refusal::Missing)?;
+    let adapter = search::find_adapter(tables.adapters, place, number).ok_or(Refusal::Missing)?;
     Ok(Pair { device, adapter })
 }
 
@@ -42,7 +35,7 @@ pub fn upstream_route(
     ensures { outcome result ≡ upstream_route_answer descriptions.now survey.now place number }
 {
     let pair = read_pair(descriptions, survey, place, number)?;
-    links::upstream_route_of(place, pair.device, pair.adapter)
+    Ok(links::upstream_route_of(place, pair.device, pair.adapter)?)
 }
 
 // The route behind an adapter that is a lane, none, or 12.
@@ -55,5 +48,5 @@ pub fn downstream_route(
     ensures { outcome result ≡ downstream_route_answer descriptions.now survey.now place number }
 {
     let pair = read_pair(descriptions, survey, place, number)?;
-    links::downstream_route_of(place, pair.device, pair.adapter)
+    Ok(links::downstream_route_of(place, pair.device, pair.adapter)?)
 }

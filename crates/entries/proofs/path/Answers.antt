@@ -1,31 +1,20 @@
-use Rattle.load.proofs.Result.{sizes}
-use lib.Seq.{length-take-le}
-use mathlib.Core.Path.{sym}
 use Rattle.std.proofs.lemmas.Result.{err_from_is_err_and}
+use mathlib.Core.Path.{◌∙◌}
+use Rattle.load.proofs.Result.{tables_fit, tables_marks}
 use Rattle.adapters.proofs.Rows as laws
 use Rattle.entries.proofs.path.Goals as goal
 
-pub returns-in_err-counts : goal.returns-in_err-counts
-returns-in_err-counts c = let p = err_from_is_err_and c.from_residual.result c.from_residual.ensures.1 in
-    rw (p.1, p.2) (laws.path_refused _ _ _ c.load-loaded.ensures.answer _ c.in_err-counts.was _ _ _)
+pub returns-in_err-tables : goal.returns-in_err-tables
+returns-in_err-tables c = let p = err_from_is_err_and c.from_residual.result c.from_residual.ensures.1 in
+    rw (p.1, p.2) (laws.path_refused _ _ _ (c.tables.ensures.rows ∙ c.load-loaded.ensures) _ _ _ _ c.in_err-tables.was)
 
-pub returns-then-counts-place : goal.returns-then-counts-place
-returns-then-counts-place c = laws.path_past _ _ _ c.load-loaded.ensures.answer _ _ _ c.in_ok-counts.was _ _ _ c.if-counts-place.true
-
-pub slice_bounds-table-end : goal.slice_bounds-table-end
-slice_bounds-table-end c = laws.adapters_there _ _ _ c.load-loaded.ensures.answer _ _ _ c.in_ok-counts.was c.load-loaded.ensures.usable (sizes _ _ c.load-loaded.type_inv)
-
-pub slice_bounds-find_adapter-end : goal.slice_bounds-find_adapter-end
-slice_bounds-find_adapter-end c = sym (length-take-le _ _ (laws.adapters_there _ _ _ c.load-loaded.ensures.answer _ _ _ c.in_ok-counts.was c.load-loaded.ensures.usable (sizes _ _ c.load-loaded.type_inv)))
+pub returns-then-tables-place : goal.returns-then-tables-place
+returns-then-tables-place c = laws.path_past _ _ _ (c.tables.ensures.rows ∙ c.load-loaded.ensures) _ _ _ c.in_ok-tables.was _ c.if-tables-place.true
 
 pub returns-in_default : goal.returns-in_default
-returns-in_default c = laws.path_nowhere _ _ _ c.load-loaded.ensures.answer _ _ _ c.in_ok-counts.was _ _ c.load-loaded.ensures.usable (sizes _ _ c.load-loaded.type_inv) c.if-counts-place.false _ c.find_adapter.ensures c.in_default.is _
-
-pub slice_bounds-rows-end : goal.slice_bounds-rows-end
-slice_bounds-rows-end c = laws.entries_there _ _ _ c.load-loaded.ensures.answer _ _ _ c.in_ok-counts.was c.load-loaded.ensures.usable (sizes _ _ c.load-loaded.type_inv)
-
-pub slice_bounds-find_entry-end : goal.slice_bounds-find_entry-end
-slice_bounds-find_entry-end c = sym (length-take-le _ _ (laws.entries_there _ _ _ c.load-loaded.ensures.answer _ _ _ c.in_ok-counts.was c.load-loaded.ensures.usable (sizes _ _ c.load-loaded.type_inv)))
+returns-in_default c = let t = c.tables.ensures in let k = c.in_ok-tables.was in
+    laws.path_nowhere _ _ _ (t.rows ∙ c.load-loaded.ensures) _ _ _ k (tables_fit _ _ k t.fits).1 (tables_marks _ _ k t.marks) c.if-tables-place.false _ c.find_adapter.ensures c.in_default.is _
 
 pub returns : goal.returns
-returns c = laws.path_found _ _ _ c.load-loaded.ensures.answer _ _ _ c.in_ok-counts.was _ _ c.load-loaded.ensures.usable (sizes _ _ c.load-loaded.type_inv) c.if-counts-place.false _ c.find_adapter.ensures _ c.in-Some.is _ _ c.find_entry-found.ensures
+returns c = let t = c.tables.ensures in let k = c.in_ok-tables.was in
+    laws.path_found _ _ _ (t.rows ∙ c.load-loaded.ensures) _ _ _ k (tables_fit _ _ k t.fits).1 (tables_marks _ _ k t.marks) c.if-tables-place.false _ c.find_adapter.ensures _ c.in-Some.is _ _ c.find_entry-found.ensures

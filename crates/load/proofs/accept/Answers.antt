@@ -1,5 +1,8 @@
-use Rattle.load.proofs.Counting.{counted_into}
+use Rattle.load.proofs.Counting.{counted}
+use native.Mathlib.Omega.{arith}
+use mathlib.Core.Path.{◌∙◌}
 use Rattle.load.proofs.accept.Goals as goal
 
 pub returns : goal.returns
-returns c = let l = c.load_into in counted_into l.new.entries l.new.adapters l.new.routes l.new.marks l.auto.entries l.auto.adapters l.auto.routes l.auto.marks _ _ l.ensures.rows l.ensures.within
+returns c = let l = c.result in let t = l.inside in let n = l.ranges in
+    counted t.entries t.adapters t.routes t.marks (omega (arith, n)) (omega (arith, n)) (omega (arith, n)) (omega (arith, n)) _ _ (l.view_is ∙ c.load.ensures) l.invariant
