@@ -10,13 +10,11 @@ pub fn depth(route: u64) -> u32
     ensures { result ≡ depth_of route }
 {
     let mut rest = route;
-    let mut d: u32 = 0;
-    while d < 8 {
+    for d in 0..8 {
         if rest < 1 {
             return d;
         }
         rest = rest / 256;
-        d += 1;
     }
     8
 }
