@@ -9,14 +9,7 @@ use usb4::ROUTE_SHIFT;
 pub fn depth(route: u64) -> u32
     ensures { result ≡ depth_of route }
 {
-    let mut rest = route;
-    for d in 0..8 {
-        if rest < 1 {
-            return d;
-        }
-        rest = rest / 256;
-    }
-    8
+    (64 - route.leading_zeros()).div_ceil(8)
 }
 
 // What 1 in the byte of a depth counts.
