@@ -58,10 +58,8 @@ fn fill(words: &[u32], records: &mut [Hop], n: usize)
     requires { n ≤ length records.old }
     ensures { records.new ≡ filled words.now n records.old }
 {
-    let mut i = 0;
-    while i < n {
-        records[i] = hop_at(words, i);
-        i += 1;
+    for (i, record) in records[..n].iter_mut().enumerate() {
+        *record = hop_at(words, i);
     }
 }
 

@@ -233,8 +233,7 @@ fn port_states(
     requires { (cap < 65536) × (count < 65536) }
     ensures { fault_outcome result ≡ ports (descriptions_of descriptions.now) site kind (after survey.now from).registers cap 0 count }
 {
-    let mut port: u32 = 0;
-    while port < count {
+    for port in 0..count {
         let offset = cap + 3 + 2 * port;
         if 65535 < offset {
             return Err(Fault::GenTOffset(site));
@@ -246,9 +245,7 @@ fn port_states(
             Ok(true) => {
                 return Ok(State::Enabled);
             }
-            Ok(false) => {
-                port += 1;
-            }
+            Ok(false) => {}
         }
     }
     Ok(State::Disabled)
