@@ -4,17 +4,19 @@ use native.Mathlib.Omega.{arith}
 use native.Mathlib.Nat.{add-zero, eq-or-lt_of_le}
 use native.Mathlib.Numerals.{add-one}
 use mathlib.Core.Path.{◌≡◌, refl, ◌∙◌, ap, sym}
-use mathlib.Core.Bool.{Bool, true, false, cond, not, ◌&&◌}
-use mathlib.Core.Logic.{⊎_elim, ◌⊎◌, inl, inr}
+use mathlib.Core.Bool.{Bool, true, false, cond, not}
+use mathlib.Core.Logic.{⊎_elim}
 use mathlib.Core.List.{List, [], ◌∷◌}
 use lib.ListN.{length, get_or, take, drop, drop_of_length-le, length-drop}
 use lib.Seq.{drop-cons, get_or-drop, take_all, drop-drop, length-take-le, take-nil}
 use lib.Dec.{eqb}
 use native.Mathlib.Decide.{dec_lt}
-use borrow.Author.Tests.{ne_eqb, not-true}
-use Rattle.scan.specs.Scan.{is_space, is_line_feed, is_not, before, place_from, TokenFrom, TokenAt, on_first, pieces, filled, tokens, ended, lines}
+use borrow.Author.Tests.{ne_eqb, not-true, le-ltb}
+use Rattle.scan.specs.Scan.{is_space, is_line_feed, is_high, is_not, before, place_from, TokenFrom, TokenAt, on_first, pieces, filled, tokens, ended, lines}
 use Rattle.scan.specs.declared.Part.{Part}
-use Rattle.std.proofs.Math.Nat.{min-eq_left}
+use Rattle.std.specs.Prelude.{max}
+use Rattle.std.specs.List.{fold}
+use Rattle.std.proofs.Math.Nat.{min-eq_left, le-max_left, le-max_right}
 use Rattle.std.proofs.lemmas.Bool.{eqb-true, eqb-false}
 
 module _ (p : ℕ → Bool) (s : List ℕ) (i : ℕ) where
@@ -31,6 +33,20 @@ module _ (p : ℕ → Bool) (s : List ℕ) (i : ℕ) where
   pub place_end : length s ≤ i → place_from p s i ≡ i
   unfolding place_from before
   place_end h = rw (drop_of_length-le s h) (omega arith)
+
+-- no byte is above the largest
+most : (s : List ℕ) (a : ℕ) → a ≤ fold max a s
+most [] a = omega arith
+most (b ∷ s) a = omega (arith, most s (max a b), le-max_left a b)
+
+low : (s : List ℕ) (a : ℕ) → fold max a s < 128 → before is_high s ≡ length s
+unfolding before is_high
+low [] a h = refl
+low (b ∷ s) a h = simp (le-ltb 127 b (omega (arith, h, most s (max a b), le-max_right a b)), low s (max a b) h)
+
+pub none_high : (s : List ℕ) → fold max 0 s < 128 → place_from is_high s 0 ≡ length s
+unfolding place_from
+none_high s h = omega (arith, low s 0 h)
 
 pub space_above : (b : ℕ) → 32 < b → false ≡ is_space b
 unfolding is_space

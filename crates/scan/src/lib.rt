@@ -1,6 +1,7 @@
 #![tactic(auto)]
 
-ghost use Rattle.std.specs.Prelude.{ℕ, Bool, ◌≤◌, ◌<◌, ◌≡◌, length};
+ghost use Rattle.std.specs.Prelude.{ℕ, Bool, ◌≡◌, max};
+ghost use Rattle.std.specs.List.{fold};
 ghost use Rattle.scan.specs.Scan.{is_space, is_line_feed, is_high, place_from, TokenAt};
 ghost use Rattle.scan.specs.Work.{Tests};
 
@@ -67,22 +68,11 @@ pub fn line_end(s: &[u8], at: usize) -> usize
     place(s, at, |b| b == 10)
 }
 
-// The larger of two bytes.
-fn larger(a: u8, b: u8) -> u8
-    ensures { (a ≤ result) × (b ≤ result) }
-{
-    if a < b { b } else { a }
-}
-
 // The largest byte, or 0: one pass that never stops early, so that it takes many bytes at a time.
 fn largest(s: &[u8]) -> u8
-    ensures { result < 128 → place_from is_high s.now 0 ≡ length s.now }
+    ensures { result ≡ fold max 0 s.now }
 {
-    let mut top: u8 = 0;
-    for &b in s {
-        top = larger(top, b);
-    }
-    top
+    s.iter().fold(0, |top, b| top.max(*b))
 }
 
 // The place of the first byte above 127, or the length.
