@@ -2,14 +2,14 @@
 use Prim.Native.Nat.{ℕ, ◌+◌, ◌-◌, ◌*◌, ◌/◌, ◌%◌, ◌<◌, ◌≤◌}
 use native.Mathlib.Omega.{arith}
 use mathlib.Core.Path.{◌≡◌, refl, ◌∙◌, ap, sym}
-use mathlib.Core.Bool.{Bool, true, false, cond}
+use mathlib.Core.Bool.{Bool, true, false}
 use mathlib.Core.List.{List, [], ◌∷◌, ◌++◌}
 use lib.ListN.{length, take, drop, get_or, set, drop_of_length-le}
 use lib.Seq.{sets-eq}
 use Rattle.std.specs.Int.{from_bool}
 use Rattle.scan.specs.Scan.{lines, is_line_feed, place_from}
 use Rattle.room.specs.Records.{records_of as dump_records}
-use Rattle.markers.specs.Markers.{Marker, Marker.router, Marker.xdomain, Marker.usb4, Marker.regs, Marker.adapter, Marker.paths, Marker.no_paths, Marker.bad, marker_of, marker_by}
+use Rattle.markers.specs.Markers.{Marker, Marker.bad, marker_of, marker_by}
 use Rattle.markers.specs.declared.Mark.{Mark}
 use Rattle.markers.specs.declared.Mark.TheVariants as mark
 use Rattle.grammar.specs.Grammar.{items_of}

@@ -6,7 +6,7 @@ use Rattle.groups.specs.Group.{words}
 use Rattle.dump.specs.Sort.{sort}
 use Rattle.room.specs.Records.{records_of as dump_records}
 use Rattle.dump.specs.Dump.{offset}
-use Rattle.markers.specs.Markers.{Marker, Marker.router, Marker.xdomain, Marker.usb4, Marker.regs, Marker.adapter, Marker.paths, Marker.no_paths, Marker.bad, marker_of}
+use Rattle.markers.specs.Markers.{Marker, Marker.bad, marker_of}
 use Rattle.grammar.specs.Grammar.{items_of}
 use Rattle.text.specs.Text.{Section, records_of, sections_of, path_group, marker_words}
 

@@ -1,4 +1,3 @@
-use mathlib.Core.Path.{◌∙◌}
 use native.Mathlib.Omega.{arith}
 use Rattle.scan.specs.Scan.{is_line_feed}
 use Rattle.scan.proofs.Laws.{place_above, place_within}

@@ -1,11 +1,9 @@
 use native.Mathlib.Omega.{arith}
-use mathlib.Core.Path.{sym, subst}
 use mathlib.Core.Bool.{not}
 use borrow.Author.Tests.{not-true, not-false}
 use mathlib.Core.Path.{ap}
 use Rattle.scan.specs.Scan.{is_line_feed}
 use Rattle.scan.proofs.Laws.{place_within}
-use Rattle.text.specs.Work.{PastMark}
 use Rattle.text.proofs.Sections.{stays, stays_end, goes_past}
 use Rattle.text.proofs.past_mark.Goals as goal
 
