@@ -1,3 +1,4 @@
+use Rattle.usb4.specs.Numbers.{type_number}
 use Rattle.state.specs.State.{ports}
 use Rattle.listing.specs.After.{after}
 use Rattle.layout.specs.Description.{descriptions_of}
@@ -6,4 +7,4 @@ use mathlib.Core.Path.{◌≡◌}
 use Rattle.state.proofs.port_states.Given as goal
 
 abbrev pub invariant-loop-port : goal.invariant-loop-port
-invariant-loop-port l = ports (descriptions_of l.descriptions) l.site l.kind (after l.survey l.from).registers l.cap l.port (l.count - l.port) ≡ ports (descriptions_of l.descriptions) l.site l.kind (after l.survey l.from).registers l.cap 0 l.count
+invariant-loop-port l = ports (descriptions_of l.descriptions) l.site (type_number l.kind) (after l.survey l.from).registers l.cap l.port (l.count - l.port) ≡ ports (descriptions_of l.descriptions) l.site (type_number l.kind) (after l.survey l.from).registers l.cap 0 l.count
