@@ -1,5 +1,5 @@
 -- Laws on totals, and on what is counted of a text's lines. Assumes nothing.
-use Rattle.std.proofs.Common.{arith, ◌≡◌, ℕ, ◌+◌, ◌-◌, ◌<◌, ◌≤◌, Bool, true, false, cond, List, length, take, drop, slice_range, refl, sym, ap, ◌∙◌, subst}
+use Rattle.std.proofs.Common.{arith, ◌≡◌, ℕ, ◌+◌, ◌<◌, ◌≤◌, Bool, true, false, cond, List, length, drop, slice_range, refl, sym, ap, ◌∙◌, subst}
 use Rattle.std.specs.Prelude.{Result, Ok, Err, IfOk, IfErr, OnOk}
 use lib.Dec.{eqb}
 use borrow.Author.Tests.{ne_eqb}
@@ -11,15 +11,18 @@ use Rattle.cases.specs.declared.totals.Totals.{Totals}
 pub line_in : (t : List ℕ) (at e : ℕ) → e ≡ place_from is_line_feed t at → at < length t → (at ≤ e) × (e ≤ length t)
 line_in t at e is before = (omega (arith, place_above is_line_feed t at), omega (arith, place_within is_line_feed t at (omega arith)))
 
-pub more_differ : (t : Totals) (b : Bool) → t.differ ≤ t.cases → (one_more t b).differ ≤ (one_more t b).cases
-unfolding one_more
-more_differ t true h = omega arith
-more_differ t false h = omega arith
+-- one case more, that differs or not
+pub record More (t u : Totals) : Type 0 where
+  pub differ_in : t.differ ≤ t.cases → u.differ ≤ u.cases
+  pub cases : u.cases ≡ t.cases + 1
 
-pub more_cases : (t : Totals) (b : Bool) → (one_more t b).cases ≡ t.cases + 1
+one : (t : Totals) (b : Bool) → More t (one_more t b)
 unfolding one_more
-more_cases t true = refl
-more_cases t false = refl
+one t true = record { differ_in = λ h. omega arith; cases = refl }
+one t false = record { differ_in = λ h. omega arith; cases = refl }
+
+pub more : (t u : Totals) (b : Bool) → u ≡ one_more t b → More t u
+more t u b e = subst (More t) (sym e) (one t b)
 
 -- one that differs, by what is the first
 differs : (t : Totals) (b : Bool) (f : ℕ) → b ≡ false → f ≡ cond (eqb t.differ 0) (t.cases + 1) t.first → record { cases = t.cases + 1; differ = t.differ + 1; first = f } ≡ one_more t b

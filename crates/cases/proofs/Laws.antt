@@ -1,5 +1,5 @@
 -- Laws on what is put into a buffer, and on the pairs and the words of a line. Assumes nothing.
-use Rattle.std.proofs.Common.{arith, ◌≡◌, ℕ, zero, suc, ◌+◌, ◌-◌, ◌*◌, ◌/◌, ◌%◌, ◌<◌, ◌≤◌, Bool, true, false, cond, ◌&&◌, List, [], ◌∷◌, ◌++◌, length, get_or, take, drop, set, refl, sym, ap, ◌∙◌, append_assoc, add-one, drop-cons, length-drop, length-append, take_all, slice_range, le-leb}
+use Rattle.std.proofs.Common.{arith, ◌≡◌, ℕ, zero, suc, ◌+◌, ◌-◌, ◌*◌, ◌/◌, ◌%◌, ◌<◌, ◌≤◌, Bool, true, false, cond, ◌&&◌, List, [], ◌∷◌, ◌++◌, length, get_or, take, drop, set, refl, sym, ap, ◌∙◌, append_assoc, add-one, drop-cons, length-append, take_all, slice_range, le-leb}
 use Rattle.std.specs.Prelude.{Option, None, Some}
 use Rattle.std.proofs.lemmas.List.{append-nil, take-append-drop, drop-set-lt, take_more_set}
 use lib.Dec.{eqb, leb}
@@ -8,10 +8,10 @@ use Rattle.std.proofs.lemmas.Bool.{lt-leb}
 use native.Mathlib.Decide.{dec_lt}
 use lib.ListN.{drop_of_length-le}
 use Rattle.util.specs.Number.{hex_number}
-use Rattle.scan.specs.Scan.{tokens, part, place_from, is_space, is_not, TokenAt}
+use Rattle.scan.specs.Scan.{tokens, part, is_space, TokenAt}
 use Rattle.scan.specs.declared.Span.{Span}
-use Rattle.scan.proofs.Laws.{token_there, token_missing, token_long, token_next, place_end, place_above, place_within, part_inside}
-use Rattle.cases.specs.Cases.{put, then_numbers, and_number, pairs_of, are_pairs, fit, pairs_put, pairs_in, is_none, input_put, input_in, numbers_of, are_numbers, numbers_in, each, listed, listed_in}
+use Rattle.scan.proofs.Laws.{token_there, token_missing, token_long, token_next, place_end, place_within, part_inside}
+use Rattle.cases.specs.Cases.{put, then_numbers, and_number, pairs_of, are_pairs, fit, pairs_put, pairs_in, no_input, input_put, input_in, numbers_of, are_numbers, numbers_in, each, listed, listed_in}
 
 -- one number more is put
 put_turn : (ws out : List ℕ) (i w : ℕ) → i < length out → take i out ++ put (w ∷ ws) (drop i out) ≡ take (i + 1) (set out i w) ++ put ws (drop (i + 1) (set out i w))
@@ -154,20 +154,20 @@ module _ (hex before out : List ℕ) (i room : ℕ) (p : Pairs hex before out i)
 
 -- `-`
 pub input_none : (s out : List ℕ) (room : ℕ) → length s ≡ 1 → get_or s 0 0 ≡ 45 → (out ≡ put (input_put s room) out) × (Some 0 ≡ input_in s room)
-unfolding is_none input_put input_in put
-input_none s out room h k = let e : is_none s ≡ true = ap (λ n. eqb n 1 && eqb (get_or s 0 0) 45) h ∙ ap (λ b. eqb b 45) k in
+unfolding no_input input_put input_in put
+input_none s out room h k = let e : no_input s ≡ true = ap (λ n. eqb n 1 && eqb (get_or s 0 0) 45) h ∙ ap (λ b. eqb b 45) k in
     (sym (ap (λ b. put (cond b [] (pairs_put s room)) out) e), sym (ap (λ b. cond b (Some 0) (pairs_in s room)) e))
 
-pub input_some : (s : List ℕ) (room : ℕ) → is_none s ≡ false → (pairs_put s room ≡ input_put s room) × (pairs_in s room ≡ input_in s room)
-unfolding is_none input_put input_in
+pub input_some : (s : List ℕ) (room : ℕ) → no_input s ≡ false → (pairs_put s room ≡ input_put s room) × (pairs_in s room ≡ input_in s room)
+unfolding no_input input_put input_in
 input_some s room e = (sym (ap (λ b. cond b [] (pairs_put s room)) e), sym (ap (λ b. cond b (Some 0) (pairs_in s room)) e))
 
-pub some_long : (s : List ℕ) → (length s ≡ 1 → ⊥) → is_none s ≡ false
-unfolding is_none
+pub some_long : (s : List ℕ) → (length s ≡ 1 → ⊥) → no_input s ≡ false
+unfolding no_input
 some_long s h = ap (λ b. b && eqb (get_or s 0 0) 45) (ne_eqb (length s) 1 h)
 
-pub some_byte : (s : List ℕ) → (get_or s 0 0 ≡ 45 → ⊥) → is_none s ≡ false
-unfolding is_none
+pub some_byte : (s : List ℕ) → (get_or s 0 0 ≡ 45 → ⊥) → no_input s ≡ false
+unfolding no_input
 some_byte s h = ap (λ b. eqb (length s) 1 && b) (ne_eqb (get_or s 0 0) 45 h) ∙ nothing (eqb (length s) 1)
   where
     nothing : (b : Bool) → (b && false) ≡ false

@@ -46,14 +46,14 @@ unfoldable pub pairs_in : List ℕ → ℕ → Option ℕ
 pairs_in s room = cond (fit s room && are_pairs s) (Some (length s / 2)) None
 
 -- `-` is an input of no bytes
-unfoldable pub is_none : List ℕ → Bool
-is_none s = eqb (length s) 1 && eqb (get_or s 0 0) 45
+unfoldable pub no_input : List ℕ → Bool
+no_input s = eqb (length s) 1 && eqb (get_or s 0 0) 45
 
 unfoldable pub input_put : List ℕ → ℕ → List ℕ
-input_put s room = cond (is_none s) [] (pairs_put s room)
+input_put s room = cond (no_input s) [] (pairs_put s room)
 
 unfoldable pub input_in : List ℕ → ℕ → Option ℕ
-input_in s room = cond (is_none s) (Some 0) (pairs_in s room)
+input_in s room = cond (no_input s) (Some 0) (pairs_in s room)
 
 -- the numbers of tokens, up to the first that is none of 32 bits
 unfoldable pub numbers_of : List (List ℕ) → List ℕ

@@ -1,5 +1,5 @@
 // How many cases agree, and what is printed of a file.
-ghost use Rattle.std.specs.Prelude.{ℕ, Bool, List, ⊤, ◌≡◌, ◌≤◌, ◌<◌, ◌+◌, length, IfOk, IfErr, OnOk, string_bytes};
+ghost use Rattle.std.specs.Prelude.{ℕ, Bool, List, ⊤, ◌≡◌, ◌≤◌, ◌<◌, length, IfOk, IfErr, OnOk};
 ghost use Rattle.std.specs.Io.KnownBytes.{Appends};
 ghost use Rattle.scan.specs.Scan.{lines};
 ghost use Rattle.cases.specs.Cases.{no_cases, one_more, Counts, totals_line, missing_line, Replayed};

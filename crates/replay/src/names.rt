@@ -1,6 +1,4 @@
 // Whether a call on descriptions answers what the words of a case say.
-ghost use Rattle.std.specs.Prelude.{◌≤◌};
-
 use naming::Sought;
 use refusal::Refusal;
 

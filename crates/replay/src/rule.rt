@@ -1,8 +1,6 @@
 // The file `rules`: what the Rust doesn't say. The first word is the call, 0 the line reader, 1 the
 // dump reader, 2 the hex reader, 3 the decimal reader, 4 any of these on a long input;
 // oracle/make-rules says what follows each.
-ghost use Rattle.std.specs.Prelude.{◌≤◌};
-
 use crate::answer::{number_agrees, record_words, wide};
 use refusal::Refusal;
 
@@ -12,7 +10,15 @@ pub fn rule_agrees(words: &[u32], input: &[u8], scratch: &mut [u32], output: &mu
     };
     let mut text = cases::room::<1000000>();
     let byte = (*byte % 256) as u8;
-    long_rule(rule, byte, *count as usize, input, &mut text, scratch, output)
+    long_rule(
+        rule,
+        byte,
+        *count as usize,
+        input,
+        &mut text,
+        scratch,
+        output,
+    )
 }
 
 // A rule on a long input: a byte so many times, and then the case's own bytes.
@@ -39,7 +45,14 @@ fn long_rule(
 fn plain_rule(words: &[u32], input: &[u8], scratch: &mut [u32], output: &mut [u32]) -> bool {
     match words {
         [0, answer @ ..] => line_rule(answer, input),
-        [1, s, o, answer @ ..] => sized_rule(answer, input, *s as usize, *o as usize, scratch, output),
+        [1, s, o, answer @ ..] => sized_rule(
+            answer,
+            input,
+            *s as usize,
+            *o as usize,
+            scratch,
+            output,
+        ),
         [2, low, high, answer @ ..] => {
             number_agrees(answer, util::parse_hex(input, wide(*low, *high)))
         }

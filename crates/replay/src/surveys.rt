@@ -1,6 +1,4 @@
 // Whether the survey calls answer what the words of a case say. The list stands last: its length, and its words.
-ghost use Rattle.std.specs.Prelude.{◌≤◌};
-
 use refusal::Refusal;
 
 fn check_agrees(survey: &[u32], status: u32, place: u32) -> bool {

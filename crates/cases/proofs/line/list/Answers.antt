@@ -1,4 +1,4 @@
-use Rattle.std.proofs.Common.{arith, ◌≡◌, ◌∙◌, ap, ◌++◌, drop, length, get_or, ◌%◌, length-take-le}
+use Rattle.std.proofs.Common.{arith, ◌∙◌, ap, ◌++◌, drop, length, get_or, ◌%◌, length-take-le}
 use Rattle.cases.specs.Cases.{each}
 use Rattle.cases.proofs.Laws.{list_none, list_long, list_fits}
 use Rattle.cases.proofs.line.list.Goals as goal

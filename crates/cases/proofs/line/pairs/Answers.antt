@@ -1,9 +1,8 @@
-use Rattle.std.proofs.Common.{◌≡◌, ◌∙◌, sym, ap, ℕ, ◌≤◌, ◌<◌, ◌/◌, ◌*◌, ◌+◌, length, arith}
-use Rattle.std.specs.Prelude.{None, Some, true}
+use Rattle.std.proofs.Common.{◌≡◌, ◌∙◌, sym, ap, ◌/◌, length, arith}
+use Rattle.std.specs.Prelude.{Some}
 use native.Mathlib.Nat.{lt_of_le_of_lt}
 use lib.Dec.{lit<}
 use Rattle.util.proofs.Laws.{hex_le}
-use Rattle.cases.specs.Cases.{fit}
 use Rattle.cases.proofs.Laws.{fit_odd, fit_long, fits, no_fit, pairs_turn, pairs_bad, pairs_all}
 use Rattle.cases.proofs.line.pairs.Goals as goal
 

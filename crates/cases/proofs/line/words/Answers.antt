@@ -1,10 +1,9 @@
-use Rattle.std.proofs.Common.{◌≡◌, ◌∙◌, sym, ap, ℕ, ◌≤◌, ◌<◌, length, arith}
-use Rattle.std.specs.Prelude.{None, Some}
+use Rattle.std.proofs.Common.{◌≡◌, ◌∙◌, sym, ap, length, arith}
+use Rattle.std.specs.Prelude.{Some}
 use native.Mathlib.Nat.{lt_of_le_of_lt}
 use lib.Dec.{lit<}
 use Rattle.util.proofs.Laws.{hex_le}
 use Rattle.util.specs.Number.{hex_number}
-use Rattle.scan.specs.Scan.{part}
 use Rattle.cases.proofs.Laws.{words_first, words_turn, words_bad, words_all, words_more}
 use Rattle.cases.proofs.line.words.Goals as goal
 

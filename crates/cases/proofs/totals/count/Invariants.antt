@@ -1,4 +1,4 @@
-use Rattle.std.proofs.Common.{ℕ, ◌+◌, ◌-◌, ◌≤◌, length, drop}
+use Rattle.std.proofs.Common.{◌+◌, ◌-◌, ◌≤◌, length, drop}
 use Rattle.scan.specs.Scan.{lines}
 use Rattle.cases.specs.Cases.{no_cases, Counts}
 use Rattle.cases.specs.declared.totals.Totals.{Totals}

@@ -1,4 +1,4 @@
-use Rattle.std.proofs.Common.{ap, sym, ◌∙◌}
+use Rattle.std.proofs.Common.{ap, sym}
 use Rattle.cases.specs.Cases.{one_more}
 use Rattle.cases.proofs.Counting.{first_here, first_before}
 use Rattle.cases.proofs.totals.counted.Goals as goal

@@ -1,4 +1,4 @@
-use Rattle.std.proofs.Common.{arith, refl, sym, ap, ◌∙◌, take, length, length-take-le, ◌≡◌, ◌≤◌}
+use Rattle.std.proofs.Common.{arith, refl, take, length, length-take-le, ◌≡◌}
 use Rattle.util.specs.Text.{bytes_of}
 use Rattle.cases.specs.Cases.{missing_line, long_line}
 use Rattle.cases.proofs.Counting.{if_ok, if_err, on_ok}
