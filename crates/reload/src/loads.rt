@@ -44,7 +44,7 @@ fn route_words(v: u64) -> [u32; 3] {
 }
 
 fn device_words(d: DeviceInfo) -> [u32; 4] {
-    let marks = usb4::kind_number(d.kind) as u64 * 256 + d.usb4 as u64 * 16 + d.depth as u64;
+    let marks = u32::from(d.kind) as u64 * 256 + d.usb4 as u64 * 16 + d.depth as u64;
     [
         low(805306368 + marks),
         d.domain,
@@ -54,7 +54,7 @@ fn device_words(d: DeviceInfo) -> [u32; 4] {
 }
 
 fn adapter_words(a: AdapterInfo) -> [u32; 2] {
-    let codes = usb4::type_number(a.kind) as u64 + usb4::state_number(a.state) as u64 * 16;
+    let codes = u32::from(a.kind) as u64 + u32::from(a.state) as u64 * 16;
     let flags = a.lane0 as u64 * 256 + a.lane1 as u64 * 512 + a.enabled as u64 * 1024;
     let least = match a.min_hop {
         Some(n) => value(n as u64),
@@ -106,7 +106,7 @@ fn after_adapter<'a>(
     let rest = after(rest, adapter.map(|a| Some(adapter_words(a))))?;
     let rest = after(
         rest,
-        speed.map(|s| Some([value(usb4::speed_number(s) as u64)])),
+        speed.map(|s| Some([value(u32::from(s) as u64)])),
     )?;
     let rest = after(rest, most.map(|h| h.map(|h| [value(h as u64)])))?;
     let rest = after_cap(rest, d, survey, place, n, 1)?;
@@ -124,7 +124,12 @@ fn after_entry<'a>(
     n: u8,
     hop: u16,
 ) -> Option<&'a [u32]> {
-    let found = entries::path(d, survey, place, n, hop);
+    let stand = Stand {
+        place,
+        adapter: n,
+        hop_id: hop,
+    };
+    let found = entries::path(d, survey, stand);
     after(rest, found.map(|entry| entry.map(entry_words)))
 }
 
@@ -140,11 +145,16 @@ fn devices_refuse(d: &[u32], survey: &[u32], place: usize, n: u8, word: u32) -> 
 
 // Whether each call on adapters is.
 fn adapters_refuse(d: &[u32], survey: &[u32], place: usize, n: u8, word: u32) -> bool {
+    let stand = Stand {
+        place,
+        adapter: n,
+        hop_id: 8,
+    };
     refuses(adapters::adapter(d, survey, place, n), word)
         && refuses(adapters::link_speed(d, survey, place, n), word)
         && refuses(adapters::max_hop(d, survey, place, n), word)
         && refuses(capabilities::capability(d, survey, place, n, 4), word)
-        && refuses(entries::path(d, survey, place, n, 8), word)
+        && refuses(entries::path(d, survey, stand), word)
 }
 
 // Every call gives the refusal that stands next.

@@ -1,5 +1,6 @@
 // Whether a single walk answers what the words of a case say, and leaves its output as it should. oracle/make-walks says what questions and answers are.
 use crate::words::{after_written, kept, mark, refuses};
+use tables::Stand;
 
 // One for the path and two a hop.
 fn path_words(hops: usize) -> usize {
@@ -11,13 +12,11 @@ fn after_path<'a>(
     rest: &'a [u32],
     d: &[u32],
     survey: &[u32],
-    place: usize,
-    n: u8,
-    hop: u16,
+    stand: Stand,
     output: &mut [u32],
 ) -> Option<&'a [u32]> {
     mark(output);
-    let answer = walks::discover_path(d, survey, place, n, hop, output);
+    let answer = walks::discover_path(d, survey, stand, output);
     let written = match answer {
         Ok(Some(hops)) => path_words(hops),
         _ => 0,
@@ -36,13 +35,23 @@ pub fn after_walk<'a>(
     let mut output = [0u32; 16400];
     let (start, rest) = rest.split_first()?;
     let room = output.get_mut(..(*start / 65536) as usize)?;
-    after_path(rest, d, survey, place, n, (*start % 65536) as u16, room)
+    let stand = Stand {
+        place,
+        adapter: n,
+        hop_id: (*start % 65536) as u16,
+    };
+    after_path(rest, d, survey, stand, room)
 }
 
 // Whether a walk is refused with that word.
 pub fn walk_refuses(d: &[u32], survey: &[u32], place: usize, n: u8, word: u32) -> bool {
     let mut output = [0u32; 4];
     mark(&mut output);
-    let answer = walks::discover_path(d, survey, place, n, 8, &mut output);
+    let stand = Stand {
+        place,
+        adapter: n,
+        hop_id: 8,
+    };
+    let answer = walks::discover_path(d, survey, stand, &mut output);
     refuses(answer, word) && kept(&output, 0)
 }
