@@ -313,13 +313,7 @@ fn is_idle(idle: &[u8; 2048], ring: u32) -> bool
 }
 
 // Writes the tunnel of a ring from a place of the output on, unless the ring is marked; the place after it.
-fn put_ring(
-    rings: &HostRings,
-    ring: u32,
-    idle: &[u8; 2048],
-    output: &mut [u32],
-    at: usize,
-) -> usize
+fn put_ring(rings: &HostRings, ring: u32, idle: &[u8; 2048], output: &mut [u32], at: usize) -> usize
     requires { (ring < 65536) × (at ≤ length output.old) × Idle rings.now.tables rings.now.place rings.now.adapter idle.now × Told rings.now.tables rings.now.notes.now rings.now.last }
     ensures { RingPut rings.now.tables rings.now.place rings.now.adapter ring at output.old result output.new }
 {
@@ -380,11 +374,7 @@ fn put_one(
 }
 
 // The tunnels of rings 1 to `end`, which is left out, by what the search for ring 65,535 noted and came to.
-fn put_noted(
-    rings: &HostRings,
-    end: u32,
-    output: &mut [u32],
-) -> Result<Option<usize>, Refusal>
+fn put_noted(rings: &HostRings, end: u32, output: &mut [u32]) -> Result<Option<usize>, Refusal>
     requires { (1 ≤ end) × (end ≤ 65536) × Told rings.now.tables rings.now.notes.now rings.now.last × Receives rings.now.tables 65535 rings.now.last }
     ensures { Answered rings.now.tables rings.now.place (λ x. ring_list x rings.now.place rings.now.adapter (end - 1)) output.old result output.new }
 {

@@ -9,11 +9,7 @@ use refusal::Refusal;
 use tables::Stand;
 
 // The first valid entry for a HopID at an adapter of the device at a place.
-pub fn path(
-    descriptions: &[u32],
-    survey: &[u32],
-    stand: Stand,
-) -> Result<Option<EntryOut>, Refusal>
+pub fn path(descriptions: &[u32], survey: &[u32], stand: Stand) -> Result<Option<EntryOut>, Refusal>
     ensures { path_outcome stand.place stand.adapter stand.hop_id result ≡ path_answer descriptions.now survey.now stand.place stand.adapter stand.hop_id }
 {
     let loaded = load::load(descriptions, survey);

@@ -65,12 +65,7 @@ fn fill(words: &[u32], records: &mut [Hop], n: usize)
 }
 
 // The core's walk, and what it comes to for so many records. It is never short of words; its other refusals are the call's.
-fn walk_for(
-    descriptions: &[u32],
-    survey: &[u32],
-    stand: Stand,
-    room: usize,
-) -> Walked
+fn walk_for(descriptions: &[u32], survey: &[u32], stand: Stand, room: usize) -> Walked
     ensures { Ready descriptions.now survey.now stand room result.answer result.count result.words }
 {
     let mut words = [0; 8193];

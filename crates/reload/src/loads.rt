@@ -104,10 +104,7 @@ fn after_adapter<'a>(
     let up = routing::upstream_route(d, survey, place, n);
     let down = routing::downstream_route(d, survey, place, n);
     let rest = after(rest, adapter.map(|a| Some(adapter_words(a))))?;
-    let rest = after(
-        rest,
-        speed.map(|s| Some([value(u32::from(s) as u64)])),
-    )?;
+    let rest = after(rest, speed.map(|s| Some([value(u32::from(s) as u64)])))?;
     let rest = after(rest, most.map(|h| h.map(|h| [value(h as u64)])))?;
     let rest = after_cap(rest, d, survey, place, n, 1)?;
     let rest = after_cap(rest, d, survey, place, n, 4)?;

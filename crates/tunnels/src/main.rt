@@ -47,11 +47,7 @@ fn write_total(rt: &impl Print, tunnels: usize) -> io::Result<()> {
 }
 
 // Writes an adapter's lines, by way of a buffer that holds any page.
-fn write_long_page(
-    rt: &impl Print,
-    tables: &Tables,
-    index: usize,
-) -> io::Result<()> {
+fn write_long_page(rt: &impl Print, tables: &Tables, index: usize) -> io::Result<()> {
     let mut buffer = page_room();
     if let Ok(Ok(n)) = report::put_page(tables, index, &mut buffer) {
         rt.write_all(&buffer[..n])?;
@@ -92,13 +88,7 @@ fn write_pages(
     if !write_page(rt, tables, middle, buffer)? {
         write_long_page(rt, tables, middle)?;
     }
-    write_pages(
-        rt,
-        tables,
-        middle + 1,
-        end,
-        buffer,
-    )
+    write_pages(rt, tables, middle + 1, end, buffer)
 }
 
 // Writes each adapter's lines.
