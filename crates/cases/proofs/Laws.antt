@@ -3,14 +3,16 @@ use Rattle.std.proofs.Common.{arith, ◌≡◌, ℕ, zero, suc, ◌+◌, ◌-◌
 use Rattle.std.specs.Prelude.{Option, None, Some}
 use Rattle.std.proofs.lemmas.List.{append-nil, take-append-drop, drop-set-lt, take_more_set}
 use lib.Dec.{eqb, leb}
-use borrow.Author.Tests.{ne_eqb}
+use borrow.Author.Tests.{ne_eqb, eq-eqb, eqb-true}
 use Rattle.std.proofs.lemmas.Bool.{lt-leb}
 use native.Mathlib.Decide.{dec_lt}
-use lib.ListN.{drop_of_length-le}
+use lib.ListN.{drop_of_length-le, length-drop}
+use lib.Seq.{length-take-le, take-nil}
+use mathlib.Core.Bool.{true≢false}
 use Rattle.util.specs.Number.{hex_number}
-use Rattle.scan.specs.Scan.{tokens, part, is_space, TokenAt}
-use Rattle.scan.specs.declared.Span.{Span}
-use Rattle.scan.proofs.Laws.{token_there, token_missing, token_long, token_next, place_end, place_within, part_inside}
+use Rattle.scan.specs.Scan.{tokens, is_space, is_not, place_from, TokenAt}
+use Rattle.scan.specs.declared.Part.{Part}
+use Rattle.scan.proofs.Laws.{token_there, token_missing, token_long, token_next, place_within}
 use Rattle.cases.specs.Cases.{put, then_numbers, and_number, pairs_of, are_pairs, fit, pairs_put, pairs_in, no_input, input_put, input_in, numbers_of, are_numbers, numbers_in, each, listed, listed_in}
 
 -- one number more is put
@@ -175,18 +177,25 @@ some_byte s h = ap (λ b. eqb (length s) 1 && b) (ne_eqb (get_or s 0 0) 45 h) �
     nothing false = refl
 
 -- the next token, or none
-pub next_token : (s : List ℕ) (at : ℕ) (t : Span) → TokenAt s at t → ((t.start ≡ t.end → ⊥) → tokens (drop at s) ≡ part s t ∷ tokens (drop t.end s)) × (t.start ≡ t.end → tokens (drop at s) ≡ [])
-next_token s at t h = go (dec_lt t.start (length s))
+pub next_token : (s : List ℕ) (at : ℕ) (t : Part) → TokenAt s at t → (eqb (length t.text.now) 0 ≡ false → tokens (drop at s) ≡ t.text.now ∷ tokens (drop t.end s)) × (eqb (length t.text.now) 0 ≡ true → tokens (drop at s) ≡ [])
+next_token s at t h = go (dec_lt st (length s))
   where
-    go : Dec (t.start < length s) → ((t.start ≡ t.end → ⊥) → tokens (drop at s) ≡ part s t ∷ tokens (drop t.end s)) × (t.start ≡ t.end → tokens (drop at s) ≡ [])
-    go (yes l) = (
-      λ n. token_there s at t.start t.end h.0 h.1 l ∙ ap (λ p. p ∷ tokens (drop t.end s)) (sym (part_inside s t (omega (arith, token_long s at t.start t.end h.0 h.1 l)) (omega (arith, h.1, place_within is_space s t.start (omega arith))))),
-      λ e. absurd (omega (arith, token_long s at t.start t.end h.0 h.1 l)),
-    )
-    go (no l) = (
-      λ n. absurd (n (sym (h.1 ∙ place_end is_space s t.start (omega arith)))),
-      λ e. token_missing s at t.start t.end h.0 h.1 (omega arith),
-    )
+    st : ℕ
+    st = place_from (is_not is_space) s at
+
+    go : Dec (st < length s) → (eqb (length t.text.now) 0 ≡ false → tokens (drop at s) ≡ t.text.now ∷ tokens (drop t.end s)) × (eqb (length t.text.now) 0 ≡ true → tokens (drop at s) ≡ [])
+    go (yes l) =
+        let some : st < t.end = token_long s at st t.end refl h.0 l in
+        let within : t.end ≤ length s = omega (arith, h.0, place_within is_space s st (omega arith)) in
+        let long : length t.text.now ≡ t.end - st = ap length h.1 ∙ length-take-le (t.end - st) (drop st s) (omega (arith, within, length-drop st s)) in (
+          λ n. token_there s at st t.end refl h.0 l ∙ ap (λ p. p ∷ tokens (drop t.end s)) (sym h.1),
+          λ e. absurd (omega (arith, some, long, eqb-true (length t.text.now) 0 e)),
+        )
+    go (no l) =
+        let long : length t.text.now ≡ 0 = ap length (h.1 ∙ ap (take (t.end - st)) (drop_of_length-le s {i = st} (omega arith)) ∙ take-nil (t.end - st)) in (
+          λ n. absurd (true≢false (sym (eq-eqb (length t.text.now) 0 long) ∙ n)),
+          λ e. token_missing s at st t.end refl h.0 (omega arith),
+        )
 
 -- after i words, of which the last ends at `at`
 pub record Words (s before out : List ℕ) (at i : ℕ) : Type 0 where
@@ -194,16 +203,16 @@ pub record Words (s before out : List ℕ) (at i : ℕ) : Type 0 where
   pub alike : are_numbers (drop 1 (tokens s)) ≡ are_numbers (tokens (drop at s))
   pub long : length (drop 1 (tokens s)) ≡ i + length (tokens (drop at s))
 
-pub words_first : (s out : List ℕ) (t : Span) → TokenAt s 0 t → Words s out out t.end 0
-words_first s out t h = let e : tokens (drop t.end s) ≡ drop 1 (tokens s) = token_next s 0 t.start t.end h.0 h.1 in record {
+pub words_first : (s out : List ℕ) (t : Part) → TokenAt s 0 t → Words s out out t.end 0
+words_first s out t h = let e : tokens (drop t.end s) ≡ drop 1 (tokens s) = token_next s 0 (place_from (is_not is_space) s 0) t.end refl h.0 in record {
   words = ap (λ ts. put (numbers_of ts) out) (sym e);
   alike = ap are_numbers (sym e);
   long = omega (arith, ap length e);
 }
 
-module _ {s before out : List ℕ} {at i : ℕ} (t : Span) (h : TokenAt s at t) (p : Words s before out at i) where
+module _ {s before out : List ℕ} {at i : ℕ} (t : Part) (h : TokenAt s at t) (p : Words s before out at i) where
   -- a word more
-  pub words_turn : (t.start ≡ t.end → ⊥) → (w : ℕ) → hex_number 4294967295 (part s t) ≡ Some w → i < length out → Words s before (set out i w) t.end (i + 1)
+  pub words_turn : eqb (length t.text.now) 0 ≡ false → (w : ℕ) → hex_number 4294967295 t.text.now ≡ Some w → i < length out → Words s before (set out i w) t.end (i + 1)
   unfolding numbers_of are_numbers
   words_turn n w e k = let here = (next_token s at t h).0 n in record {
     words = p.words ∙ ap (λ ts. take i out ++ put (numbers_of ts) (drop i out)) here ∙ ap (λ o. take i out ++ put (then_numbers o (numbers_of (tokens (drop t.end s)))) (drop i out)) e ∙ put_turn _ out i w k;
@@ -212,7 +221,7 @@ module _ {s before out : List ℕ} {at i : ℕ} (t : Span) (h : TokenAt s at t) 
   }
 
   -- one that is no number
-  pub words_bad : (t.start ≡ t.end → ⊥) → hex_number 4294967295 (part s t) ≡ None → (out ≡ put (numbers_of (drop 1 (tokens s))) before) × ((room : ℕ) → None ≡ numbers_in (drop 1 (tokens s)) room)
+  pub words_bad : eqb (length t.text.now) 0 ≡ false → hex_number 4294967295 t.text.now ≡ None → (out ≡ put (numbers_of (drop 1 (tokens s))) before) × ((room : ℕ) → None ≡ numbers_in (drop 1 (tokens s)) room)
   unfolding numbers_of are_numbers numbers_in
   words_bad n e = let here = (next_token s at t h).0 n in (
     sym (p.words ∙ ap (λ ts. take i out ++ put (numbers_of ts) (drop i out)) here ∙ ap (λ o. take i out ++ put (then_numbers o (numbers_of (tokens (drop t.end s)))) (drop i out)) e ∙ put_none out i),
@@ -220,7 +229,7 @@ module _ {s before out : List ℕ} {at i : ℕ} (t : Span) (h : TokenAt s at t) 
   )
 
   -- no more
-  pub words_all : t.start ≡ t.end → (out ≡ put (numbers_of (drop 1 (tokens s))) before) × ((room : ℕ) → i ≤ room → Some i ≡ numbers_in (drop 1 (tokens s)) room)
+  pub words_all : eqb (length t.text.now) 0 ≡ true → (out ≡ put (numbers_of (drop 1 (tokens s))) before) × ((room : ℕ) → i ≤ room → Some i ≡ numbers_in (drop 1 (tokens s)) room)
   unfolding numbers_of are_numbers numbers_in
   words_all e = let here = (next_token s at t h).1 e in (
     sym (p.words ∙ ap (λ ts. take i out ++ put (numbers_of ts) (drop i out)) here ∙ put_none out i),
@@ -228,7 +237,7 @@ module _ {s before out : List ℕ} {at i : ℕ} (t : Span) (h : TokenAt s at t) 
   )
 
   -- more than there is room for
-  pub words_more : (t.start ≡ t.end → ⊥) → length out ≤ i → (out ≡ put (numbers_of (drop 1 (tokens s))) before) × ((room : ℕ) → room ≤ i → None ≡ numbers_in (drop 1 (tokens s)) room)
+  pub words_more : eqb (length t.text.now) 0 ≡ false → length out ≤ i → (out ≡ put (numbers_of (drop 1 (tokens s))) before) × ((room : ℕ) → room ≤ i → None ≡ numbers_in (drop 1 (tokens s)) room)
   unfolding numbers_in
   words_more n k = let here = (next_token s at t h).0 n in (
     sym (p.words ∙ put_stops _ out i k),

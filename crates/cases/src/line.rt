@@ -46,14 +46,14 @@ pub fn words(line: &[u8], out: &mut [u32]) -> Option<usize>
     let mut token = scan::token(line, 0);
     for i in 0..out.len() {
         token = scan::token(line, token.end);
-        if token.start == token.end {
+        if token.text.is_empty() {
             return Some(i);
         }
-        let w = util::parse_hex(scan::part(line, token), MAX_32)?;
+        let w = util::parse_hex(token.text, MAX_32)?;
         out[i] = w as u32;
     }
     token = scan::token(line, token.end);
-    if token.start == token.end {
+    if token.text.is_empty() {
         Some(out.len())
     } else {
         None

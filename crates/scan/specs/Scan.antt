@@ -1,5 +1,5 @@
 -- Document 01, module 3: lines and their tokens; bytes above 127. Assumes nothing.
-use Rattle.std.specs.Prelude.{ℕ, suc, ◌+◌, ◌-◌, min, Bool, cond, not, ◌||◌, List, [], ◌∷◌, eqb, ltb, length, take, drop, ◌≡◌}
+use Rattle.std.specs.Prelude.{ℕ, suc, ◌+◌, ◌-◌, Bool, cond, not, ◌||◌, List, [], ◌∷◌, eqb, ltb, length, take, drop, ◌≡◌}
 use Rattle.scan.specs.declared.Part.{Part}
 
 -- tab, LF, FF, CR, space
@@ -28,9 +28,9 @@ place_from p s i = i + before p (drop i s)
 abbrev pub TokenFrom : List ℕ → ℕ → Part → Type 0
 TokenFrom s st t = (t.end ≡ place_from is_space s st) × (t.text.now ≡ take (t.end - st) (drop st s))
 
--- t is the first token from i on, or from the end on where i is past it: from the first byte that is no separator up to the next separator; empty at the end where there is none
+-- t is the first token from i on: from the first byte that is no separator up to the next separator; empty at the end where there is none
 abbrev pub TokenAt : List ℕ → ℕ → Part → Type 0
-TokenAt s i t = TokenFrom s (place_from (is_not is_space) s (min i (length s))) t
+TokenAt s i t = TokenFrom s (place_from (is_not is_space) s i) t
 
 -- a byte before the first of the pieces
 unfoldable pub on_first : ℕ → List (List ℕ) → List (List ℕ)

@@ -50,15 +50,18 @@ fn place<F: Fn(u8) -> bool>(s: &[u8], at: usize, sought: F) -> usize
     i
 }
 
-// The first token from `at` on, or from the end on where `at` is past it; empty where there is none.
+// The first token from `at` on; empty where there is none.
 // No Option, and its bytes come with it: a line of five tokens takes `register::read_line` 394 instructions, 411 with a return after each token that is missing, and 437 where parts are cut out by their places later and so tested again.
 pub fn token(s: &[u8], at: usize) -> Part<'_>
     ensures { TokenAt s.now at result }
 {
     let start = place(s, at.min(s.len()), |b| !is_space(b));
-    let end = place(s, start, is_space);
-    let text = &s[start..end];
-    Part { text, end }
+    let stop = place(s, start, is_space);
+    let text = &s[start..stop];
+    Part {
+        text,
+        end: stop.max(at),
+    }
 }
 
 // The first place from `at` on that holds LF, or the end; `at` itself past the end.
