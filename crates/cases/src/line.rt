@@ -44,13 +44,13 @@ pub fn words(line: &[u8], out: &mut [u32]) -> Option<usize>
     ensures within { IfSome result (λ n. n ≤ length out.new) }
 {
     let mut token = scan::token(line, 0);
-    for i in 0..out.len() {
+    for (i, slot) in out.iter_mut().enumerate() {
         token = scan::token(line, token.end);
         if token.text.is_empty() {
             return Some(i);
         }
         let w = util::parse_hex(token.text, MAX_32)?;
-        out[i] = w as u32;
+        *slot = w as u32;
     }
     token = scan::token(line, token.end);
     if token.text.is_empty() {

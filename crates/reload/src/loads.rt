@@ -198,7 +198,7 @@ fn after_question<'a>(rest: &'a [u32], d: &[u32], survey: &[u32]) -> Option<&'a 
     }
 }
 
-// Whether all questions have their answers. Each is a word at least.
+// Whether all questions have their answers. Each is a word at least, so there are at most as many as words: as `while`, each call would want a contract that what follows is shorter.
 fn answers_agree(questions: &[u32], d: &[u32], survey: &[u32]) -> bool {
     let mut rest = questions;
     for _ in 0..questions.len() {

@@ -12,25 +12,26 @@ use cases::Compare;
 use std::rt::Files;
 use std::{fs, io};
 
-// The set of descriptions that surveys go by, of which `held` words are in hand.
+// The set of descriptions that surveys go by, and how many words it has, where one is in hand.
 #[derive(Drop)]
 struct InHand {
     set: [u32; 16400],
-    held: usize,
+    held: Option<usize>,
 }
 
 impl InHand {
+    fn in_hand(&self) -> Option<&[u32]> {
+        self.set.get(..self.held?)
+    }
+
     // The case's kind stands first: 0 a set of descriptions, 1 a survey that goes by the set in hand.
     fn words_agree(&mut self, words: &[u32]) -> bool {
         match words {
-            [0, list @ ..] => match cases::list(list, &mut self.set) {
-                Some(n) => {
-                    self.held = n;
-                    true
-                }
-                None => false,
-            },
-            [_, rest @ ..] => match self.set.get(..self.held) {
+            [0, list @ ..] => {
+                self.held = cases::list(list, &mut self.set);
+                self.held.is_some()
+            }
+            [_, rest @ ..] => match self.in_hand() {
                 Some(descriptions) => loads::survey_agrees(rest, descriptions),
                 None => false,
             },
@@ -52,7 +53,7 @@ impl Compare for InHand {
 fn replay(rt: &(impl Files + Print), name: &str) -> io::Result<()> {
     let mut of = InHand {
         set: [0; 16400],
-        held: 0,
+        held: None,
     };
     cases::replay(name, fs::open(rt, name), &mut of, &mut io::writer(rt))
 }

@@ -35,12 +35,12 @@ enum Cases {
     Named,
 }
 
-// What a file's cases are, and the set of descriptions that a case about names goes by, of which `held` words are in hand.
+// What a file's cases are; the set of descriptions that a case about names goes by, and how many words it has, where one is in hand.
 #[derive(Drop)]
 struct InHand {
     cases: Cases,
     set: [u32; 16400],
-    held: usize,
+    held: Option<usize>,
 }
 
 // Puts a case's input into `bytes`; how many bytes it has.
@@ -104,7 +104,7 @@ fn replay(rt: &(impl Files + Print), name: &str, cases: Cases) -> io::Result<()>
     let mut of = InHand {
         cases,
         set: [0; 16400],
-        held: 0,
+        held: None,
     };
     cases::replay(name, fs::open(rt, name), &mut of, &mut io::writer(rt))
 }

@@ -3,29 +3,28 @@ use naming::Sought;
 use refusal::Refusal;
 
 // The case's kind stands first: 0 a set, 1 a question about the set in hand, 2 a list with the place of refusal 3.
-pub fn name_agrees(line: &[u8], words: &[u32], set: &mut [u32], held: &mut usize) -> bool {
+pub fn name_agrees(line: &[u8], words: &[u32], set: &mut [u32], held: &mut Option<usize>) -> bool {
     match words {
         [0, descriptions @ ..] => {
-            *held = descriptions.len();
-            load(descriptions, set)
+            *held = load(descriptions, set);
+            held.is_some() && description::check(descriptions).is_ok()
         }
-        [1, question @ ..] => question_agrees(line, question, set, *held),
+        [1, question @ ..] => match held.and_then(|n| set.get(..n)) {
+            Some(descriptions) => question_agrees(line, question, descriptions),
+            None => false,
+        },
         [2, status, place, list @ ..] => {
-            *held = 0;
+            *held = None;
             place_agrees(*status, *place as usize, list, set)
         }
         _ => false,
     }
 }
 
-fn load(descriptions: &[u32], set: &mut [u32]) -> bool {
-    match set.get_mut(..descriptions.len()) {
-        Some(front) => {
-            front.copy_from_slice(descriptions);
-            description::check(descriptions).is_ok()
-        }
-        None => false,
-    }
+fn load(descriptions: &[u32], set: &mut [u32]) -> Option<usize> {
+    let n = descriptions.len();
+    set.get_mut(..n)?.copy_from_slice(descriptions);
+    Some(n)
 }
 
 // The words say 0 or 3 and the place; then comes the list.
@@ -41,13 +40,10 @@ fn place_agrees(status: u32, place: usize, list: &[u32], words: &mut [u32]) -> b
 }
 
 // The input is the wanted name.
-fn question_agrees(line: &[u8], question: &[u32], set: &[u32], held: usize) -> bool {
+fn question_agrees(line: &[u8], question: &[u32], descriptions: &[u32]) -> bool {
     let mut wanted = [0u8; 256];
-    let Some(n) = crate::input(line, &mut wanted) else {
-        return false;
-    };
-    match set.get(..held) {
-        Some(descriptions) => answered(question, descriptions, &wanted[..n]),
+    match crate::input(line, &mut wanted) {
+        Some(n) => answered(question, descriptions, &wanted[..n]),
         None => false,
     }
 }

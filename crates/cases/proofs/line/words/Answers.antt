@@ -1,5 +1,6 @@
 use Rattle.std.proofs.Common.{◌≡◌, ◌∙◌, sym, ap, length, arith}
 use Rattle.std.specs.Prelude.{Some}
+use Rattle.std.proofs.lemmas.List.{set-get_or}
 use native.Mathlib.Nat.{lt_of_le_of_lt}
 use lib.Dec.{lit<}
 use Rattle.util.proofs.Laws.{hex_le}
@@ -11,19 +12,19 @@ pub loop-i-init : goal.loop-i-init
 loop-i-init c = words_first _ _ c.token-token.result c.token-token.ensures
 
 pub returns-then-is_empty-clause-words : goal.returns-then-is_empty-clause-words
-returns-then-is_empty-clause-words c = (words_all c.token-token-in-loop-i.result c.token-token-in-loop-i.ensures c.loop-i.invariant (sym c.is_empty.ensures ∙ c.if-is_empty.true)).0
+returns-then-is_empty-clause-words c = set-get_or _ _ _ ∙ (words_all c.token-token-in-loop-i.result c.token-token-in-loop-i.ensures c.loop-i.invariant (sym c.is_empty.ensures ∙ c.if-is_empty.true)).0
 
 pub returns-then-is_empty-clause-number : goal.returns-then-is_empty-clause-number
 returns-then-is_empty-clause-number c = (words_all c.token-token-in-loop-i.result c.token-token-in-loop-i.ensures c.loop-i.invariant (sym c.is_empty.ensures ∙ c.if-is_empty.true)).1 _ (omega (arith, c.loop-i-test.true))
 
 pub returns-in_err-w-clause-words : goal.returns-in_err-w-clause-words
-returns-in_err-w-clause-words c = (words_bad c.token-token-in-loop-i.result c.token-token-in-loop-i.ensures c.loop-i.invariant (sym c.is_empty.ensures ∙ c.if-is_empty.false) (sym c.parse_hex.ensures ∙ c.in_err-w.was)).0
+returns-in_err-w-clause-words c = set-get_or _ _ _ ∙ (words_bad c.token-token-in-loop-i.result c.token-token-in-loop-i.ensures c.loop-i.invariant (sym c.is_empty.ensures ∙ c.if-is_empty.false) (sym c.parse_hex.ensures ∙ c.in_err-w.was)).0
 
 pub returns-in_err-w-clause-number : goal.returns-in_err-w-clause-number
 returns-in_err-w-clause-number c = c.from_residual.ensures ∙ (words_bad c.token-token-in-loop-i.result c.token-token-in-loop-i.ensures c.loop-i.invariant (sym c.is_empty.ensures ∙ c.if-is_empty.false) (sym c.parse_hex.ensures ∙ c.in_err-w.was)).1 _
 
-pub overflow_cast-out : goal.overflow_cast-out
-overflow_cast-out c = record { fits = lt_of_le_of_lt (hex_le 4294967295 _ c.in_ok-w.w (sym c.parse_hex.ensures ∙ c.in_ok-w.was)) (lit< tt) }
+pub overflow_cast-slot : goal.overflow_cast-slot
+overflow_cast-slot c = record { fits = lt_of_le_of_lt (hex_le 4294967295 _ c.in_ok-w.w (sym c.parse_hex.ensures ∙ c.in_ok-w.was)) (lit< tt) }
 
 pub loop-i-preserved : goal.loop-i-preserved
 loop-i-preserved c = words_turn c.token-token-in-loop-i.result c.token-token-in-loop-i.ensures c.loop-i.invariant (sym c.is_empty.ensures ∙ c.if-is_empty.false) c.in_ok-w.w (sym c.parse_hex.ensures ∙ c.in_ok-w.was) (omega (arith, c.loop-i-test.true, c.loop-i.auto.out))
