@@ -65,7 +65,7 @@ pub fn refused(refusal: Refusal) -> [u64; 8]
 }
 
 // A result of one number.
-fn result(n: u64) -> [u64; 8]
+pub fn result(n: u64) -> [u64; 8]
     ensures { result ≡ said (value (Some (one n))) }
 {
     [0, 1, n, 0, 0, 0, 0, 0]

@@ -1,20 +1,15 @@
 -- Laws for handing words out. Assumes nothing.
 use Prim.Native.Nat.{ℕ, ◌≤◌, ◌<◌}
-use native.Mathlib.Omega.{arith}
 use mathlib.Core.Path.{◌≡◌, refl, ap, sym, ◌∙◌}
 use mathlib.Core.Bool.{true, true≢false}
 use mathlib.Core.List.{List, [], ◌∷◌, ◌++◌}
 use Rattle.std.specs.Prelude.{Some}
-use lib.ListN.{length, take, drop}
-use lib.Seq.{take_all}
+use lib.ListN.{length, drop}
 use borrow.Author.Tests.{lt-ltb, le-ltb}
 use Rattle.refusal.specs.Outcome.{refused, value, bind}
 use Rattle.text.specs.Text.{in_room, output_by}
 use Rattle.answers.specs.Said.{padded, said, answered, always, one}
 use Rattle.lookups.specs.Handed.{HandedOut}
-
-pub all_copied : (d s : List ℕ) (i : ℕ) → i ≡ length s → take i s ++ drop i d ≡ s ++ drop (length s) d
-all_copied d s i e = ap (λ n. take n s ++ drop n d) e ∙ ap (λ l. l ++ drop (length s) d) (take_all (length s) s (omega arith))
 
 result_answered : (n : ℕ) → answered (said (value (Some (one n)))) ≡ true
 unfolding answered said padded one

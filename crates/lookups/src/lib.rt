@@ -1,7 +1,7 @@
 // What the exported calls answer, in eight words: the calls on description words, and whether survey words are well formed.
 #![tactic(auto)]
 
-ghost use Rattle.std.specs.Prelude.{◌≤◌, ◌≡◌, ◌++◌, length, drop};
+ghost use Rattle.std.specs.Prelude.{◌≡◌};
 ghost use Rattle.answers.specs.Said.{said, always, perhaps, one, bare};
 ghost use Rattle.lookups.specs.Handed.{HandedOut, OursSaid};
 ghost use Rattle.refusal.specs.Refusal.{outcome};
@@ -53,16 +53,6 @@ pub fn field(answer: Result<u32, Refusal>) -> [u64; 8]
     }
 }
 
-// Puts all words of a list at the front of another that has room for them.
-fn copy(from: &[u32], to: &mut [u32])
-    requires { length from.now ≤ length to.old }
-    ensures { to.new ≡ from.now ++ drop (length from.now) to.old }
-{
-    for (i, &word) in from.iter().enumerate() {
-        to[i] = word;
-    }
-}
-
 // Puts all words of a list at the front of another, if it has room for them, and says how many there are.
 fn put(from: &[u32], to: &mut [u32]) -> [u64; 8]
     ensures { HandedOut from.now to.old to.new result }
@@ -70,7 +60,7 @@ fn put(from: &[u32], to: &mut [u32]) -> [u64; 8]
     if to.len() < from.len() {
         return [2, from.len() as u64, 0, 0, 0, 0, 0, 0];
     }
-    copy(from, to);
+    to[..from.len()].copy_from_slice(from);
     [0, 1, from.len() as u64, 0, 0, 0, 0, 0]
 }
 

@@ -75,7 +75,7 @@ unfolding survey_words
 no_words t at h = ap survey_words (sections_end t at h)
 
 -- a flag as a bit
-bit_is : (b : Bool) → bit b ≡ from_bool b
+pub bit_is : (b : Bool) → bit b ≡ from_bool b
 unfolding bit
 bit_is true = refl
 bit_is false = refl

@@ -17,12 +17,6 @@ const BELOW: u64 = 0x03ff_0000_0000_0000;
 
 const ABOVE: u64 = 0x0000_007e_0000_007e;
 
-fn wide(x: u8) -> u64
-    ensures { result ≡ x }
-{
-    x as u64
-}
-
 // The bits for a byte.
 fn digit_bits(b: u8) -> u64
     ensures { result ≡ digit_bits b }
@@ -40,7 +34,7 @@ fn digit_bits(b: u8) -> u64
 fn digit(b: u8) -> u64
     ensures { result ≡ digit_of b }
 {
-    let k = wide(b);
+    let k = b as u64;
     if (digit_bits(b) >> (k % 64)) % 2 == 1 {
         return k % 16 + 9 * (k / 64);
     }

@@ -9,7 +9,7 @@ use Rattle.refusal.specs.Refusal.{outcome}
 
 pub returns-in-Ok : goal.returns-in-Ok
 unfolding said padded bind always speed_words one
-returns-in-Ok c = c.result.ensures ∙ ap (λ n. said (value (Some (one n)))) c.speed_number.ensures ∙ sym (ap (λ a. said (always speed_words (outcome a))) c.in-Ok.is)
+returns-in-Ok c = c.result.ensures ∙ ap (λ n. said (value (Some (one n)))) c.from.ensures ∙ sym (ap (λ a. said (always speed_words (outcome a))) c.in-Ok.is)
 
 pub returns-in-Err : goal.returns-in-Err
 unfolding said padded bind always speed_words one

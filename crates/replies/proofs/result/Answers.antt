@@ -1,8 +1,0 @@
-use mathlib.Core.Path.{refl}
-use Rattle.answers.specs.Said.{said, padded, one}
-use Rattle.replies.proofs.result.Goals as goal
-
--- `replies::result` meets its contract.
-pub returns : goal.returns
-unfolding said padded one
-returns c = refl
