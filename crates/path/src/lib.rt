@@ -35,19 +35,17 @@ fn put_hops(tables: &Tables, stand: Stand, output: &mut [u32]) -> usize
 {
     let room = (output.len() - 1) / 2;
     let mut s = stand;
-    let mut i: usize = 0;
-    while i < room {
+    for i in 0..room {
         let Some(entry) = search::find_entry(tables.entries, s) else {
             return i;
         };
         output[1 + 2 * i] = hop_word(s.place, s.adapter, entry.out_adapter);
         output[2 + 2 * i] = (s.hop_id as u32) * 65536 + entry.out_hop as u32;
-        i += 1;
         let Ok(next) = fabric::leads(tables, s.place, entry.out_adapter) else {
-            return i;
+            return i + 1;
         };
         let Next::On { place, adapter } = next else {
-            return i;
+            return i + 1;
         };
         s = Stand {
             place,
@@ -55,7 +53,7 @@ fn put_hops(tables: &Tables, stand: Stand, output: &mut [u32]) -> usize
             hop_id: entry.out_hop,
         };
     }
-    i
+    room
 }
 
 // Writes a walk's hops, as far as there is room, as a path with a name; how many words. For a walk that is known to have a path: whether there is one is not looked at.

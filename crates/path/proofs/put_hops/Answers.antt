@@ -3,7 +3,8 @@ use mathlib.Core.Path.{sym, ◌≡◌}
 use Prim.Native.Nat.{ℕ}
 use Rattle.std.specs.Prelude.{Ok}
 use Prim.Native.Nat.{◌+◌, ◌*◌, ◌-◌}
-use mathlib.Core.Path.{refl, ap, ◌∙◌}
+use mathlib.Core.Path.{refl, ap, ◌∙◌, subst}
+use Rattle.path.specs.Work.{HopsPut}
 use native.Mathlib.Omega.{arith}
 use lib.ListN.{set, length-set}
 use Rattle.path.proofs.Writing.{kept_start, kept_full, kept_missing, kept_on, kept_last}
@@ -52,4 +53,4 @@ pub shape_of-output : goal.shape_of-output
 shape_of-output c = c.loop-i.invariant.long
 
 pub returns : goal.returns
-returns c = kept_full _ _ _ _ _ _ _ _ c.loop-i.invariant c.loop-i-test.false
+returns c = subst (λ n. HopsPut c.args.tables.now c.args.stand c.args.output.now n c.loop-i.output) (omega (arith, c.loop-i.auto.i-end, c.loop-i-test.false)) (kept_full _ _ _ _ _ _ _ _ c.loop-i.invariant c.loop-i-test.false)
