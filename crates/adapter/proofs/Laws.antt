@@ -18,6 +18,9 @@ use Rattle.refusal.specs.declared.Fault.{Fault}
 use Rattle.refusal.specs.declared.Fault.TheVariants.{FewRegisters}
 use Rattle.util.specs.Bits.{bits_of}
 use Rattle.util.specs.Text.{bytes_of}
+use denote.Enum.Bare.{sameb}
+use Rattle.usb4.proofs.Laws as usb4
+use Rattle.usb4.specs.contracts.AdapterType.{the_type}
 use Rattle.usb4.specs.Codes.{type_of}
 use Rattle.usb4.specs.Numbers.{type_number}
 use Rattle.usb4.specs.declared.AdapterType.{AdapterType}
@@ -270,14 +273,17 @@ module _ (t : List ℕ) (cap : ℕ) (rs : List Register) where
       seek_again k m x y ex ey = onward start index x y ex ey (λ z. absurd (omega arith)) (turn true (eq-eqb (w % 65536) cap k) ∙ resume_again start end index later m)
 
 -- lanes
-module _ (k : AdapterType) (n : ℕ) (e : n ≡ type_number k) where
-  pub no_lane : (n ≡ 2 → ⊥) → is_lane k ≡ false
-  unfolding is_lane
-  no_lane h = ap (λ z. eqb z 2) (sym e) ∙ ne_eqb n 2 h
+pub this_lane : (k : AdapterType) (d : Bool) → d ≡ sameb the_type k type.Lane → d ≡ is_lane k
+unfolding is_lane
+this_lane k d e = e ∙ usb4.is_lane k
 
-  pub a_lane : n ≡ 2 → is_lane k ≡ true
-  unfolding is_lane
-  a_lane h = ap (λ z. eqb z 2) (sym e ∙ h)
+pub no_lane : (k : AdapterType) (d : Bool) → d ≡ not (sameb the_type k type.Lane) → d ≡ true → is_lane k ≡ false
+unfolding is_lane
+no_lane = usb4.no_lane
+
+pub a_lane : (k : AdapterType) (d : Bool) → d ≡ not (sameb the_type k type.Lane) → d ≡ false → is_lane k ≡ true
+unfolding is_lane
+a_lane = usb4.a_lane
 
 module _ (usb4 : Bool) (k : AdapterType) (number : ℕ) (rs : List Register) where
   lane0_by : (l b c d : Bool) → is_lane k ≡ l → (usb4 && is_some (find_cap cap_usb4 rs)) ≡ b → eqb number 1 ≡ c → eqb number 3 ≡ d → is_lane0 usb4 k number rs ≡ (l && (b || c || d))
@@ -338,11 +344,6 @@ module _ (s : Site) (t v : List ℕ) (o : Option Named) (f : Option NamedAt) (e 
     pub most_is : (m : ℕ) → r ≡ Ok m → m ≤ 65535 → field_at s (Ok (Some m)) ≡ max_hop_in s o
     unfolding sited bind narrow
     most_is m y l = sym (most_by ∙ ap (λ z. bind (sited s (field_read z)) (λ m. value (narrow m))) y ∙ ap (λ b. value (cond b (Some m) None)) (le-leb m 65535 l))
-
-pub most_of : (ds : List Description) (s : Site) (k : AdapterType) (n : ℕ) (rs : List Register) (h : Result (Option ℕ) FieldError) → n ≡ type_number k
-    → field_at s h ≡ max_hop_in s (by_name ds adapter_space n (bytes_of "ADP_CS_5") rs) → field_at s h ≡ max_hop ds s k rs
-unfolding max_hop of_kind
-most_of ds s k n rs h e q = q ∙ ap (λ z. max_hop_in s (by_name ds adapter_space z (bytes_of "ADP_CS_5") rs)) e
 
 -- what is known of an adapter, field by field
 pub facts_row_lem : (ds : List Description) (p : ℕ) (usb4 : Bool) (n : ℕ) (k : AdapterType) (rs : List Register) (st : State) (l0 l1 : Bool) (sp : Result Speed FieldError) (h : Result (Option ℕ) FieldError)

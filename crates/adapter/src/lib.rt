@@ -4,6 +4,7 @@
 ghost use Rattle.std.specs.Prelude.{◌≡◌, ◌&&◌, not, ℕ};
 ghost use Rattle.refusal.specs.declared.Site.{Site};
 ghost use Rattle.util.specs.Text.{bytes_of};
+ghost use Rattle.usb4.specs.Numbers.{type_number};
 ghost use Rattle.layout.specs.Description.{descriptions_of};
 ghost use Rattle.listing.specs.After.{after, adapter_at};
 ghost use Rattle.named.specs.Named.{adapter_space, named, by_name};
@@ -119,7 +120,7 @@ fn find_cap(survey: &[u32], from: usize, cap: u32) -> Option<Part>
 fn is_lane0(survey: &[u32], from: usize, usb4: bool, kind: AdapterType, number: u8) -> bool
     ensures { result ≡ is_lane0 usb4 kind number (after survey.now from).registers }
 {
-    if usb4::type_number(kind) != 2 {
+    if kind != AdapterType::Lane {
         return false;
     }
     if number == 1 {
@@ -138,26 +139,22 @@ fn is_lane0(survey: &[u32], from: usize, usb4: bool, kind: AdapterType, number: 
 fn is_lane1(kind: AdapterType, lane0: bool) -> bool
     ensures { result ≡ is_lane kind && not lane0 }
 {
-    if usb4::type_number(kind) != 2 {
-        return false;
-    }
-    !lane0
+    kind == AdapterType::Lane && !lane0
 }
 
-// The largest HopID of an adapter of a kind, by the kind's number.
+// The largest HopID of an adapter of a kind.
 fn max_hop(
     descriptions: &[u32],
     survey: &[u32],
     from: usize,
-    kind: u32,
+    kind: AdapterType,
 ) -> Result<Option<u32>, FieldError>
-    ensures { (s : Site) → field_at s result ≡ max_hop_in s (by_name (descriptions_of descriptions.now) adapter_space kind (bytes_of "ADP_CS_5") (after survey.now from).registers) }
+    ensures { (s : Site) → field_at s result ≡ max_hop_in s (by_name (descriptions_of descriptions.now) adapter_space (type_number kind) (bytes_of "ADP_CS_5") (after survey.now from).registers) }
 {
-    let Some(NamedAt { register, group }) = named::by_name(
+    let Some(NamedAt { register, group }) = named::of_adapter(
         descriptions,
         survey,
         from,
-        1,
         kind,
         b"ADP_CS_5",
     ) else {
@@ -188,7 +185,7 @@ fn facts_of(
     let lane0 = is_lane0(survey, from, usb4, kind, number);
     let lane1 = is_lane1(kind, lane0);
     let speed = speed::link_speed(descriptions, survey, from, kind, state);
-    let max_hop = max_hop(descriptions, survey, from, usb4::type_number(kind));
+    let max_hop = max_hop(descriptions, survey, from, kind);
     Facts {
         number,
         kind,

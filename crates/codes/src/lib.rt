@@ -1,4 +1,4 @@
-// The codes that registers and surveys hold, and what each stands for.
+// The codes that registers hold, and what each stands for. An adapter's type, its state and its speed have another number besides, which tables hold (`facts`): so each function has a name, since a `From<u32>` would not say which of the two is read.
 #![tactic(auto)]
 
 ghost use Rattle.std.specs.Prelude.{◌≡◌};
@@ -54,110 +54,60 @@ pub const LANE_ADP_CS_1_CURRENT_SPEED_GEN3: u32 = 0x04;
 pub const LANE_ADP_CS_1_CURRENT_SPEED_GEN4: u32 = 0x02;
 
 // The adapter type of a code.
+#[tactic(auto, unfolding(usb4::specs::Codes::type_of))]
 pub fn adapter_type(code: u32) -> AdapterType
     ensures { result ≡ type_of code }
 {
-    if code == ADP_CS_2_TYPE_INACTIVE {
-        return AdapterType::Inactive;
+    match code {
+        ADP_CS_2_TYPE_INACTIVE => AdapterType::Inactive,
+        ADP_CS_2_TYPE_LANE => AdapterType::Lane,
+        ADP_CS_2_TYPE_NHI => AdapterType::HostInterface,
+        ADP_CS_2_TYPE_DP_IN => AdapterType::DisplayPortIn,
+        ADP_CS_2_TYPE_DP_OUT => AdapterType::DisplayPortOut,
+        ADP_CS_2_TYPE_PCIE_DOWN => AdapterType::PcieDown,
+        ADP_CS_2_TYPE_PCIE_UP => AdapterType::PcieUp,
+        ADP_CS_2_TYPE_USB3_DOWN => AdapterType::Usb3Down,
+        ADP_CS_2_TYPE_USB3_UP => AdapterType::Usb3Up,
+        ADP_CS_2_TYPE_USB3_GENT_DOWN => AdapterType::Usb3GenTDown,
+        ADP_CS_2_TYPE_USB3_GENT_UP => AdapterType::Usb3GenTUp,
+        _ => AdapterType::Unknown,
     }
-    if code == ADP_CS_2_TYPE_LANE {
-        return AdapterType::Lane;
-    }
-    if code == ADP_CS_2_TYPE_NHI {
-        return AdapterType::HostInterface;
-    }
-    if code == ADP_CS_2_TYPE_DP_IN {
-        return AdapterType::DisplayPortIn;
-    }
-    if code == ADP_CS_2_TYPE_DP_OUT {
-        return AdapterType::DisplayPortOut;
-    }
-    if code == ADP_CS_2_TYPE_PCIE_DOWN {
-        return AdapterType::PcieDown;
-    }
-    if code == ADP_CS_2_TYPE_PCIE_UP {
-        return AdapterType::PcieUp;
-    }
-    if code == ADP_CS_2_TYPE_USB3_DOWN {
-        return AdapterType::Usb3Down;
-    }
-    if code == ADP_CS_2_TYPE_USB3_UP {
-        return AdapterType::Usb3Up;
-    }
-    if code == ADP_CS_2_TYPE_USB3_GENT_DOWN {
-        return AdapterType::Usb3GenTDown;
-    }
-    if code == ADP_CS_2_TYPE_USB3_GENT_UP {
-        return AdapterType::Usb3GenTUp;
-    }
-    AdapterType::Unknown // any other code
 }
 
 // The state of a lane adapter by its code.
+#[tactic(auto, unfolding(usb4::specs::Codes::lane_state_of))]
 pub fn lane_state(code: u32) -> State
     ensures { result ≡ lane_state_of code }
 {
-    if code == LANE_ADP_CS_1_ADAPTER_STATE_DISABLED {
-        return State::Disabled;
+    match code {
+        LANE_ADP_CS_1_ADAPTER_STATE_DISABLED => State::Disabled,
+        LANE_ADP_CS_1_ADAPTER_STATE_TRAINING => State::Training,
+        LANE_ADP_CS_1_ADAPTER_STATE_CL0 => State::Cl0,
+        LANE_ADP_CS_1_ADAPTER_STATE_CL0S_TX => State::Cl0sTx,
+        LANE_ADP_CS_1_ADAPTER_STATE_CL0S_RX => State::Cl0sRx,
+        LANE_ADP_CS_1_ADAPTER_STATE_CL1 => State::Cl1,
+        LANE_ADP_CS_1_ADAPTER_STATE_CL2 => State::Cl2,
+        LANE_ADP_CS_1_ADAPTER_STATE_CLD => State::Cld,
+        _ => State::Unknown,
     }
-    if code == LANE_ADP_CS_1_ADAPTER_STATE_TRAINING {
-        return State::Training;
-    }
-    if code == LANE_ADP_CS_1_ADAPTER_STATE_CL0 {
-        return State::Cl0;
-    }
-    if code == LANE_ADP_CS_1_ADAPTER_STATE_CL0S_TX {
-        return State::Cl0sTx;
-    }
-    if code == LANE_ADP_CS_1_ADAPTER_STATE_CL0S_RX {
-        return State::Cl0sRx;
-    }
-    if code == LANE_ADP_CS_1_ADAPTER_STATE_CL1 {
-        return State::Cl1;
-    }
-    if code == LANE_ADP_CS_1_ADAPTER_STATE_CL2 {
-        return State::Cl2;
-    }
-    if code == LANE_ADP_CS_1_ADAPTER_STATE_CLD {
-        return State::Cld;
-    }
-    State::Unknown
 }
 
 // The link speed by its code.
+#[tactic(auto, unfolding(usb4::specs::Codes::speed_of))]
 pub fn speed_of(code: u32) -> Speed
     ensures { result ≡ speed_of code }
 {
-    if code == LANE_ADP_CS_1_CURRENT_SPEED_GEN2 {
-        return Speed::Gen2;
+    match code {
+        LANE_ADP_CS_1_CURRENT_SPEED_GEN2 => Speed::Gen2,
+        LANE_ADP_CS_1_CURRENT_SPEED_GEN3 => Speed::Gen3,
+        LANE_ADP_CS_1_CURRENT_SPEED_GEN4 => Speed::Gen4,
+        _ => Speed::Unknown,
     }
-    if code == LANE_ADP_CS_1_CURRENT_SPEED_GEN3 {
-        return Speed::Gen3;
-    }
-    if code == LANE_ADP_CS_1_CURRENT_SPEED_GEN4 {
-        return Speed::Gen4;
-    }
-    Speed::Unknown
 }
 
-// The device kind of a number; Unknown from 5 on.
+// The device kind of a number, for calls that are still to become `Kind::from`.
 pub fn device_kind(number: u32) -> Kind
     ensures { result ≡ device_kind_of number }
 {
-    if number == 0 {
-        return Kind::Domain;
-    }
-    if number == 1 {
-        return Kind::Router;
-    }
-    if number == 2 {
-        return Kind::Xdomain;
-    }
-    if number == 3 {
-        return Kind::Retimer;
-    }
-    if number == 4 {
-        return Kind::Service;
-    }
-    Kind::Unknown
+    Kind::from(number)
 }

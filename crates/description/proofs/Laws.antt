@@ -1,33 +1,23 @@
--- Laws of the rules: the loops of good_name and check. Assumes nothing.
-use Prim.Native.Nat.{ℕ, ◌+◌, ◌-◌, ◌≤◌, ◌<◌}
+-- Laws of the rules: the bytes of good_name, and the loop of check. Assumes nothing.
+use Rattle.std.specs.List.{list_all, range_with_len}
+use Prim.Native.Nat.{ℕ, zero, suc, ◌+◌, ◌-◌, ◌≤◌, ◌<◌}
 use mathlib.Core.Path.{◌≡◌, refl, sym, ap, ◌∙◌}
 use mathlib.Core.List.{List, [], ◌∷◌}
-use mathlib.Core.Bool.{Bool, true, false, cond, false≢true}
+use mathlib.Core.Bool.{Bool, true, false, cond, false≢true, ◌&&◌}
 use native.Mathlib.Omega.{arith}
 use lib.Dec.{eqb}
 use lib.ListN.{length}
 use borrow.Author.Tests.{eqb-true}
 use Rattle.refusal.specs.Outcome.{refused, value}
 use Rattle.layout.specs.Layout.{word, kind, byte_at, size_of, heads}
-use Rattle.layout.proofs.Laws.{one_less, Rest, rest_all, rest_next, rest_end}
+use Rattle.layout.proofs.Laws.{Rest, rest_all, rest_next, rest_end}
 use Rattle.description.specs.Rules.{good_byte, good_bytes, good_register, good_group, first_bad}
 
--- the loop of good_name: byte j is good, or not, or there is none
-module _ (t : List ℕ) (p n j m : ℕ) where
-  pub bytes_more : j < m → good_byte n j (byte_at t p j) ≡ true → good_bytes t p n j (m - j) ≡ good_bytes t p n (j + 1) (m - (j + 1))
-  unfolding good_bytes
-  bytes_more l e = rw (one_less j m l, e) refl
-
-  pub bytes_bad : j < m → good_byte n j (byte_at t p j) ≡ false → good_bytes t p n j (m - j) ≡ false
-  unfolding good_bytes
-  bytes_bad l e = rw (one_less j m l, e) refl
-
-  pub bytes_end : m ≤ j → good_bytes t p n j (m - j) ≡ true
-  unfolding good_bytes
-  bytes_end l = rw (let q : m - j ≡ 0 = omega arith in q) refl
-
-  pub byte_seen : (b : ℕ) (r x : Bool) → b ≡ byte_at t p j → r ≡ good_byte n j b → r ≡ x → good_byte n j (byte_at t p j) ≡ x
-  byte_seen b r x e q s = ap (λ (z : ℕ). good_byte n j z) (sym e) ∙ sym q ∙ s
+-- the bytes from byte j on, one by one
+pub bytes_all : (t : List ℕ) (p n j k : ℕ) → list_all (λ i. good_byte n i (byte_at t p i)) (range_with_len j k) ≡ good_bytes t p n j k
+unfolding good_bytes
+bytes_all t p n j zero = refl
+bytes_all t p n j (suc k) = ap (λ b. good_byte n j (byte_at t p j) && b) (bytes_all t p n (j + 1) k)
 
 -- the loop of check, over what is left of the heads
 abbrev pub Checking : List ℕ → ℕ → Type 0

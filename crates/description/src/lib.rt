@@ -28,15 +28,7 @@ fn good_name(t: &[u32], p: usize, n: u32) -> bool
     requires { n < 256 }
     ensures { result ≡ good_name t.now p n }
 {
-    let bytes = 4 * ((n + 3) / 4);
-    let mut j: u32 = 0;
-    while j < bytes {
-        if !good_byte(n, j, layout::byte_at(t, p, j as usize)) {
-            return false;
-        }
-        j += 1;
-    }
-    true
+    (0..4 * ((n + 3) / 4)).all(|j| good_byte(n, j, layout::byte_at(t, p, j as usize)))
 }
 
 // What is not had is 0.

@@ -16,19 +16,6 @@ pub fn discover(
     ensures { DiscoverDone descriptions.now survey.now place adapter output.old result output.new }
 {
     let loaded = load::load(descriptions, survey);
-    let answer = loaded.answer;
-    let counts = answer?;
-    let routes = loaded.routes;
-    let marks = loaded.marks;
-    let table = loaded.adapters;
-    let paths = loaded.entries;
-    discovery::discover_in(
-        &paths[..counts.entries],
-        &table[..counts.adapters],
-        &routes[..counts.devices],
-        &marks[..counts.devices],
-        place,
-        adapter,
-        output,
-    )
+    let tables = loaded.tables()?;
+    discovery::discover_in(&tables, place, adapter, output)
 }

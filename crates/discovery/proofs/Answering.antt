@@ -12,12 +12,13 @@ use lib.ListN.{length, take, drop, drop_of_length-le}
 use lib.Seq.{length-take-le, length_front, drop_at}
 use borrow.Author.Tests.{lt-ltb, le-ltb, eq-eqb, ne_eqb}
 use Rattle.refusal.specs.Outcome.{Outcome, refused, value, bind}
-use Rattle.refusal.specs.Refusal.{at as site-at, refusal_of, field_at, is_given}
+use Rattle.refusal.specs.Refusal.{at as site-at, refusal_of, field_at, is_given, IsMet, of_walk, refused_by, walk_outcome}
 use Rattle.refusal.specs.declared.Fault.TheVariants.{NoField}
 use Rattle.usb4.specs.Numbers.{type_number, state_number}
 use Rattle.usb4.specs.declared.AdapterType.{AdapterType}
 use Rattle.usb4.specs.declared.AdapterType.TheVariants as type
 use Rattle.usb4.specs.declared.State.{State}
+use Rattle.usb4.specs.declared.State.TheVariants as state
 use Rattle.usb4.specs.declared.TunnelType.TheVariants as tunnel_type
 use Rattle.state.specs.State.{is_protocol, is_enabled}
 use Rattle.adapter.specs.Adapter.{AdapterRow, min_hop, adapter_site, facts_row}
@@ -28,9 +29,10 @@ use Rattle.tables.specs.Found.{device_found, adapter_found, AdapterSought}
 use Rattle.tables.specs.declared.DeviceFacts.{DeviceFacts}
 use Rattle.tables.proofs.Laws.{type_round, device_past_routes}
 use Rattle.load.specs.Answers.{present, asked_device, asked_adapter}
-use Rattle.refusal.specs.Refusal.{refused_by, outcome, field_at, is_given}
+use Rattle.refusal.specs.Refusal.{refused_by, field_at, is_given, IsMet, of_walk, walk_outcome}
 use Rattle.refusal.specs.declared.Refusal.{Refusal}
 use Rattle.refusal.specs.declared.Refusal.TheVariants as refusal
+use Rattle.refusal.specs.declared.WalkError.TheVariants as walk
 use Rattle.tunnel.specs.Tunnels.{Tunnel, down_and_up, display_port, rings, or_none, dma, alone, of_kind, discover}
 use Rattle.tunnel.specs.Words.{tunnels_words}
 use Rattle.tunnel.specs.Plans.{plan_if, planned_as, planned_outcome, words_by, paths_by, Plans}
@@ -39,7 +41,7 @@ use Rattle.discovery.specs.Answers.{discover_at, in_room, output_by}
 use Rattle.discovery.specs.Tables.{Discovered}
 use Rattle.discovery.specs.Work.{Wrote, Walks, PlanPut, tally_of, Tallies, RingsPut, Follows, Free, OneAnswered, Answered, ring_list, dma_by, tunnel_by, rings_end}
 use Rattle.discovery.proofs.Walks.{down_and_up_walks, display_port_walks}
-use Rattle.refusal.proofs.Laws.{refused_bind}
+use Rattle.refusal.proofs.Laws.{walk_bind}
 use Rattle.path.proofs.Writing.{refused_as_lem}
 use Rattle.discovery.proofs.Past.{rings_capped}
 use Rattle.discovery.proofs.Rings.{plan_words, plan_refused}
@@ -47,6 +49,8 @@ use Rattle.refusal.specs.declared.FieldError.{FieldError}
 use Rattle.refusal.specs.declared.FieldError.TheVariants as field
 use Rattle.tables.specs.declared.Tables.{Tables}
 use Rattle.tables.specs.Tables.{Sized, Tabled, rows_of}
+use Rattle.refusal.specs.declared.WalkError.{WalkError}
+use mathlib.Core.Logic.{inl, inr}
 
 -- ---- by what is discovered
 
@@ -80,18 +84,31 @@ module _ (o : Outcome (Option (List Tunnel))) (out : List ℕ) where
 
 -- ---- on any tables
 
-pub free_kept : (out : List ℕ) (r : Result (Option ℕ) Refusal) → is_given r ≡ false → Free out r out
+pub free_kept : (out : List ℕ) (r : Result (Option ℕ) Refusal) → is_given r ≡ false → ((m : Refusal) → r ≡ Err m → IsMet m) → Free out r out
 unfolding is_given
-free_kept out r b = record { kept = λ q. refl; fits = λ n e. absurd (true≢false (sym (ap is_given e) ∙ b)); tail = λ n e. refl; long = refl }
+free_kept out r b met = record { met = met; kept = λ q. refl; fits = λ n e. absurd (true≢false (sym (ap is_given e) ∙ b)); tail = λ n e. refl; long = refl }
 
 pub free_words : (out S : List ℕ) (w : ℕ) → w ≤ length out → length S ≡ length (take w out) → Free out (Ok (Some w)) (S ++ drop w out)
 unfolding is_given
 free_words out S w l n = record {
+  met = λ m e. absurd (let z : ◌≡◌ {A = ℕ} 0 1 = cc in omega arith);
   kept = λ q. absurd (true≢false q);
   fits = λ k e. let z : w ≡ k = cc in omega arith;
   tail = λ k e. subst (λ j. drop j (S ++ drop w out) ≡ drop j out) (let z : w ≡ k = cc in z) (drop_at S (drop w out) w (n ∙ length-take-le w out l));
   long = length_front out S w n;
 }
+
+-- what is refused, if anything is
+none_met : (m : Refusal) → ◌≡◌ {A = Result (Option ℕ) Refusal} (Ok None) (Err m) → IsMet m
+none_met m e = absurd (let z : ◌≡◌ {A = ℕ} 0 1 = cc in omega arith)
+
+short_met : (w : ℕ) (m : Refusal) → ◌≡◌ {A = Result (Option ℕ) Refusal} (Err (refusal.Short w)) (Err m) → IsMet m
+unfolding IsMet
+short_met w m e = inr (w, cc)
+
+walk_met : (r : WalkError) (m : Refusal) → ◌≡◌ {A = Result (Option ℕ) Refusal} (Err (of_walk r)) (Err m) → IsMet m
+unfolding IsMet
+walk_met r m e = inl (r, cc)
 
 -- what is discovered, by another definition
 answered_as : (tables : Tables) (p : ℕ) (f g : Rows → Outcome (Option (List Tunnel))) (out : List ℕ) (r : Result (Option ℕ) Refusal) (out' : List ℕ) → (Sized tables → f (rows_of tables) ≡ g (rows_of tables)) → Answered tables p g out r out' → Answered tables p f out r out'
@@ -99,17 +116,10 @@ answered_as tables p f g out r out' e w = record { follows = λ z t l. subst (λ
 
 -- ---- one tunnel
 
-pub one_refused : (tables : Tables) (out : List ℕ) (r : Refusal) → OneAnswered tables (Err r) out (Err r) out
-unfolding is_given bind
-one_refused tables out r = record {
-  follows = λ z t o f w. let y = plan_refused r o f in follows_refused (bind o alone) out r y.0 y.1 (ap (λ q. bind q alone) y.2) y.3;
-  free = free_kept out (Err r) refl;
-}
-
 module _ (tables : Tables) (plan : Option Planned) (out : List ℕ) where
-  pub one_absent : plan ≡ None → OneAnswered tables (Ok plan) out (Ok None) out
+  pub one_absent : plan ≡ None → OneAnswered tables plan out (Ok None) out
   unfolding is_given planned_outcome bind plan_if alone
-  one_absent e = record { follows = λ z t o f w. follows_none (bind o alone) out (go o (sym (ap (λ q. planned_outcome (Ok q)) e) ∙ f)); free = free_kept out (Ok None) refl }
+  one_absent e = record { follows = λ z t o f w. follows_none (bind o alone) out (go o (sym (ap (λ q. planned_outcome (Ok q)) e) ∙ f)); free = free_kept out (Ok None) refl none_met }
     where
       go : (o : Outcome (Option Tunnel)) → value None ≡ bind o (λ t. value (plan_if t)) → bind o alone ≡ value None
       go (refused k vs) f = absurd (let z : ◌≡◌ {A = ℕ} 0 1 = cc in omega arith)
@@ -135,14 +145,14 @@ module _ (tables : Tables) (plan : Option Planned) (out : List ℕ) where
     unfolding tally_of
     tunnel_words_lem = ap tally_of e
 
-    pub one_short : length out < w → OneAnswered tables (Ok plan) out (Err (refusal.Short w)) out
+    pub one_short : length out < w → OneAnswered tables plan out (Err (refusal.Short w)) out
     unfolding is_given
     one_short l = record {
       follows = λ z t o f q. let y = one_planned w tunnel_words_lem tunnel_planned o f in follows_short (bind o alone) out (y.0 ∷ []) w y.2 y.3 l;
-      free = free_kept out (Err (refusal.Short w)) refl;
+      free = free_kept out _ refl (short_met w);
     }
 
-    pub one_put : (S : List ℕ) (r : ℕ) → w ≤ length out → length S ≡ length (take w out) → PlanPut tables (Ok (Some (planned_as k c w n a b d))) 0 (take w out) r S → OneAnswered tables (Ok plan) out (Ok (Some w)) (S ++ drop w out)
+    pub one_put : (S : List ℕ) (r : ℕ) → w ≤ length out → length S ≡ length (take w out) → PlanPut tables (Some (planned_as k c w n a b d)) 0 (take w out) r S → OneAnswered tables plan out (Ok (Some w)) (S ++ drop w out)
     one_put S r l m p = record {
       follows = λ z t o f q. let y = one_planned w tunnel_words_lem tunnel_planned o f in follows_words (bind o alone) out (y.0 ∷ []) w y.2 y.3 l S (whole z t y.0 y.3 y.4 (q (Some y.0) y.1));
       free = free_words out S w l m;
@@ -161,10 +171,10 @@ unfolding bind
 counted_words (refused k vs) w e = absurd (let z : ◌≡◌ {A = ℕ} 0 1 = cc in omega arith)
 counted_words (value ts) w e = (ts, refl, cc)
 
-counted_refused : (o : Outcome (List Tunnel)) (r : Refusal) → refused_by r ≡ bind o (λ ts. value (length (tunnels_words ts))) → (k : ℕ) × (vs : List ℕ) × (o ≡ refused k vs) × ((A : Type 0) → refused_by {A = A} r ≡ refused k vs)
+counted_refused : (o : Outcome (List Tunnel)) (r : WalkError) → refused_by (of_walk r) ≡ bind o (λ ts. value (length (tunnels_words ts))) → (k : ℕ) × (vs : List ℕ) × (o ≡ refused k vs) × ((A : Type 0) → refused_by {A = A} (of_walk r) ≡ refused k vs)
 unfolding bind
-counted_refused (refused k vs) r e = (k, vs, refl, λ A. sym (refused_bind r (λ y. refused 0 [])) ∙ ap (λ w. bind w (λ y. refused 0 [])) e)
-counted_refused (value ts) r e = absurd (let w = refused_as_lem (value (length (tunnels_words ts))) r e in let v = w.2 in let z : ◌≡◌ {A = ℕ} 0 1 = cc in omega arith)
+counted_refused (refused k vs) r e = (k, vs, refl, λ A. sym (walk_bind r (λ y. refused 0 [])) ∙ ap (λ w. bind w (λ y. refused 0 [])) e)
+counted_refused (value ts) r e = absurd (let w = refused_as_lem (value (length (tunnels_words ts))) (of_walk r) e in let v = w.2 in let z : ◌≡◌ {A = ℕ} 0 1 = cc in omega arith)
 
 module _ (tables : Tables) (p a : ℕ) (out : List ℕ) where
   abbrev Rung : Result (Option ℕ) FieldError → Result (Option ℕ) Refusal → List ℕ → Type 0
@@ -174,14 +184,14 @@ module _ (tables : Tables) (p a : ℕ) (out : List ℕ) where
   unfolding is_given dma_by bind or_none
   dma_absent m e = record {
     follows = λ z t l. follows_none (dma_by (rows_of tables) p a (field_at (adapter_site p a) m)) out (ap (λ q. dma_by (rows_of tables) p a (field_at (adapter_site p a) q)) e);
-    free = free_kept out (Ok None) refl;
+    free = free_kept out (Ok None) refl none_met;
   }
 
   pub dma_unread : (m : Result (Option ℕ) FieldError) → m ≡ (Err field.NoField) → Rung m (Err (refusal.Fault (NoField (adapter_site p a)))) out
   unfolding is_given dma_by bind refusal_of
   dma_unread m e = record {
     follows = λ z t l. follows_refused (dma_by (rows_of tables) p a (field_at (adapter_site p a) m)) out (refusal.Fault (NoField (adapter_site p a))) 6 (site-at (adapter_site p a)) (ap (λ q. dma_by (rows_of tables) p a (field_at (adapter_site p a) q)) e) (λ A. refl);
-    free = free_kept out _ refl;
+    free = free_kept out _ refl (walk_met (walk.Fault (NoField (adapter_site p a))));
   }
 
   -- those past 65,535 have no tunnel
@@ -197,24 +207,24 @@ module _ (tables : Tables) (p a : ℕ) (out : List ℕ) (k : ℕ) where
   abbrev Listed : Result (Option ℕ) Refusal → List ℕ → Type 0
   Listed r out' = Answered tables p (λ x. ring_list x p a k) out r out'
 
-  module _ (c : Result ℕ Refusal) (f : Tallies tables p a k c) where
-    pub list_refused : (r : Refusal) → c ≡ Err r → Listed (Err r) out
+  module _ (c : Result ℕ WalkError) (f : Tallies tables p a k c) where
+    pub list_refused : (r : WalkError) → c ≡ Err r → Listed (Err (of_walk r)) out
     unfolding is_given bind
     list_refused r d = record {
-      follows = λ z t l. let y = counted_refused (rings (rows_of tables) p a 1 k) r (sym (ap outcome d) ∙ f.counts z t l) in follows_refused (ring_list (rows_of tables) p a k) out r y.0 y.1 (ap (λ o. bind o (λ ts. value (Some ts))) y.2) y.3;
-      free = free_kept out (Err r) refl;
+      follows = λ z t l. let y = counted_refused (rings (rows_of tables) p a 1 k) r (sym (ap walk_outcome d) ∙ f.counts z t l) in follows_refused (ring_list (rows_of tables) p a k) out (of_walk r) y.0 y.1 (ap (λ o. bind o (λ ts. value (Some ts))) y.2) y.3;
+      free = free_kept out (Err (of_walk r)) refl (walk_met r);
     }
 
     module _ (w : ℕ) (d : c ≡ Ok w) where
       all_rings : Sized tables → Tabled tables → p < 65536 → (ts : List Tunnel) × (rings (rows_of tables) p a 1 k ≡ value ts) × (w ≡ length (tunnels_words ts)) × (ring_list (rows_of tables) p a k ≡ value (Some ts))
       unfolding bind
-      all_rings z t l = let y = counted_words (rings (rows_of tables) p a 1 k) w (sym (ap outcome d) ∙ f.counts z t l) in (y.0, y.1, y.2, ap (λ o. bind o (λ ts. value (Some ts))) y.1)
+      all_rings z t l = let y = counted_words (rings (rows_of tables) p a 1 k) w (sym (ap walk_outcome d) ∙ f.counts z t l) in (y.0, y.1, y.2, ap (λ o. bind o (λ ts. value (Some ts))) y.1)
 
       pub list_short : length out < w → Listed (Err (refusal.Short w)) out
       unfolding is_given
       list_short n = record {
         follows = λ z t l. let y = all_rings z t l in follows_short (ring_list (rows_of tables) p a k) out y.0 w y.3 y.2 n;
-        free = free_kept out (Err (refusal.Short w)) refl;
+        free = free_kept out _ refl (short_met w);
       }
 
       pub list_put : w ≤ length out → (S : List ℕ) → length S ≡ length (take w out) → RingsPut tables p a k (take w out) S → Listed (Ok (Some w)) (S ++ drop w out)
@@ -225,16 +235,29 @@ module _ (tables : Tables) (p a : ℕ) (out : List ℕ) (k : ℕ) where
 
 -- ---- by the adapter's kind
 
-type_is : (k : AdapterType) (n : ℕ) → n ≡ type_number k → k ≡ type_by n
-type_is k n e = sym (type_round k) ∙ ap type_by (sym e)
+no_host : (k : AdapterType) → (k ≡ type.HostInterface → ⊥) → type_number k ≡ 3 → ⊥
+unfolding type_by
+no_host k n e = n (sym (type_round k) ∙ ap type_by e)
+
+no_enabled : (st : State) → (st ≡ state.Enabled → ⊥) → eqb (state_number st) 2 ≡ false
+no_enabled state.Unknown n = refl
+no_enabled state.Disabled n = refl
+no_enabled state.Enabled n = absurd (n refl)
+no_enabled state.Training n = refl
+no_enabled state.Cl0 n = refl
+no_enabled state.Cl0sTx n = refl
+no_enabled state.Cl0sRx n = refl
+no_enabled state.Cl1 n = refl
+no_enabled state.Cl2 n = refl
+no_enabled state.Cld n = refl
 
 never_and : (b : Bool) → (b && false) ≡ false
 never_and true = refl
 never_and false = refl
 
-not_enabled : (k : AdapterType) (st : State) → (type_number k ≡ 3 → ⊥) → (state_number st ≡ 2 → ⊥) → is_enabled k st ≡ false
+not_enabled : (k : AdapterType) (st : State) → (k ≡ type.HostInterface → ⊥) → (st ≡ state.Enabled → ⊥) → is_enabled k st ≡ false
 unfolding is_enabled
-not_enabled k st f g = ap (λ b. b || (is_protocol k && eqb (state_number st) 2)) (ne_eqb (type_number k) 3 f) ∙ ap (λ b. is_protocol k && b) (ne_eqb (state_number st) 2 g) ∙ never_and (is_protocol k)
+not_enabled k st f g = ap (λ b. b || (is_protocol k && eqb (state_number st) 2)) (ne_eqb (type_number k) 3 (no_host k f)) ∙ ap (λ b. is_protocol k && b) (no_enabled st g) ∙ never_and (is_protocol k)
 
 -- an enabled adapter that isn't a host interface
 by_number : (x : Rows) (p : ℕ) (y : AdapterRow) (k : AdapterType) (st : State) → (type_number k ≡ 3 → ⊥) → eqb (state_number st) 2 ≡ true → cond (is_enabled k st) (of_kind x p y k) (value None) ≡ bind (tunnel_by x p y.number (type_number k)) alone
@@ -263,32 +286,41 @@ tunnel_walks x p a n t e = go (eqb n 4) (eqb n 6) (eqb n 8) t e
     go false false false None e = omega arith
     go false false false (Some t) e = absurd (let z : ◌≡◌ {A = ℕ} 0 1 = cc in omega arith)
 
--- a plan by the number of a kind
-module _ (tables : Tables) (p a n : ℕ) where
-  plans_as : (f : Rows → Outcome (Option Tunnel)) (r : Result (Option Planned) Refusal) → ((x : Rows) → tunnel_by x p a n ≡ f x) → Plans tables p f r → Plans tables p (λ x. tunnel_by x p a n) r
+-- a plan by a kind
+module _ (tables : Tables) (p a : ℕ) (k : AdapterType) where
+  plans_as : (f : Rows → Outcome (Option Tunnel)) (r : Result (Option Planned) WalkError) → ((x : Rows) → tunnel_by x p a (type_number k) ≡ f x) → Plans tables p f r → Plans tables p (λ x. tunnel_by x p a (type_number k)) r
   plans_as f r e g = record { answers = λ z t l. g.answers z t l ∙ ap (λ o. bind o (λ t. value (plan_if t))) (sym (e (rows_of tables))); few = g.few; three = g.three }
 
-  pub plan_display_port : n ≡ 4 → (r : Result (Option Planned) Refusal) → Plans tables p (λ x. display_port x p a) r → Plans tables p (λ x. tunnel_by x p a n) r
+  pub plan_display_port : k ≡ type.DisplayPortIn → (r : Result (Option Planned) WalkError) → Plans tables p (λ x. display_port x p a) r → Plans tables p (λ x. tunnel_by x p a (type_number k)) r
   unfolding tunnel_by
-  plan_display_port e r g = plans_as (λ x. display_port x p a) r (λ x. ap (tunnel_by x p a) e) g
+  plan_display_port e r g = plans_as (λ x. display_port x p a) r (λ x. ap (λ t. tunnel_by x p a (type_number t)) e) g
 
-  pub plan_pcie : n ≡ 6 → (r : Result (Option Planned) Refusal) → Plans tables p (λ x. down_and_up x tunnel_type.Pcie 5 6 p a) r → Plans tables p (λ x. tunnel_by x p a n) r
+  pub plan_pcie : k ≡ type.PcieDown → (r : Result (Option Planned) WalkError) → Plans tables p (λ x. down_and_up x tunnel_type.Pcie 5 6 p a) r → Plans tables p (λ x. tunnel_by x p a (type_number k)) r
   unfolding tunnel_by
-  plan_pcie e r g = plans_as (λ x. down_and_up x tunnel_type.Pcie 5 6 p a) r (λ x. ap (tunnel_by x p a) e) g
+  plan_pcie e r g = plans_as (λ x. down_and_up x tunnel_type.Pcie 5 6 p a) r (λ x. ap (λ t. tunnel_by x p a (type_number t)) e) g
 
-  pub plan_usb3 : n ≡ 8 → (r : Result (Option Planned) Refusal) → Plans tables p (λ x. down_and_up x tunnel_type.Usb3 0 1 p a) r → Plans tables p (λ x. tunnel_by x p a n) r
+  pub plan_usb3 : k ≡ type.Usb3Down → (r : Result (Option Planned) WalkError) → Plans tables p (λ x. down_and_up x tunnel_type.Usb3 0 1 p a) r → Plans tables p (λ x. tunnel_by x p a (type_number k)) r
   unfolding tunnel_by
-  plan_usb3 e r g = plans_as (λ x. down_and_up x tunnel_type.Usb3 0 1 p a) r (λ x. ap (tunnel_by x p a) e) g
+  plan_usb3 e r g = plans_as (λ x. down_and_up x tunnel_type.Usb3 0 1 p a) r (λ x. ap (λ t. tunnel_by x p a (type_number t)) e) g
 
-  none_by : (n ≡ 4 → ⊥) → (n ≡ 6 → ⊥) → (n ≡ 8 → ⊥) → (x : Rows) → tunnel_by x p a n ≡ value None
-  unfolding tunnel_by
-  none_by i j k x = ap (λ b. cond b (display_port x p a) (cond (eqb n 6) (down_and_up x tunnel_type.Pcie 5 6 p a) (cond (eqb n 8) (down_and_up x tunnel_type.Usb3 0 1 p a) (value None)))) (ne_eqb n 4 i)
-      ∙ ap (λ b. cond b (down_and_up x tunnel_type.Pcie 5 6 p a) (cond (eqb n 8) (down_and_up x tunnel_type.Usb3 0 1 p a) (value None))) (ne_eqb n 6 j)
-      ∙ ap (λ b. cond b (down_and_up x tunnel_type.Usb3 0 1 p a) (value None)) (ne_eqb n 8 k)
+none_by : (x : Rows) (p a : ℕ) (k : AdapterType) → (k ≡ type.DisplayPortIn → ⊥) → (k ≡ type.PcieDown → ⊥) → (k ≡ type.Usb3Down → ⊥) → tunnel_by x p a (type_number k) ≡ value None
+unfolding tunnel_by
+none_by x p a type.Unknown i j l = refl
+none_by x p a type.Inactive i j l = refl
+none_by x p a type.Lane i j l = refl
+none_by x p a type.HostInterface i j l = refl
+none_by x p a type.DisplayPortIn i j l = absurd (i refl)
+none_by x p a type.DisplayPortOut i j l = refl
+none_by x p a type.PcieDown i j l = absurd (j refl)
+none_by x p a type.PcieUp i j l = refl
+none_by x p a type.Usb3Down i j l = absurd (l refl)
+none_by x p a type.Usb3Up i j l = refl
+none_by x p a type.Usb3GenTDown i j l = refl
+none_by x p a type.Usb3GenTUp i j l = refl
 
-  pub plan_other : (n ≡ 4 → ⊥) → (n ≡ 6 → ⊥) → (n ≡ 8 → ⊥) → Plans tables p (λ x. tunnel_by x p a n) (Ok None)
-  unfolding planned_outcome words_by paths_by plan_if bind
-  plan_other i j k = record { answers = λ z t l. sym (ap (λ o. bind o (λ t. value (plan_if t))) (none_by i j k (rows_of tables))); few = omega arith; three = omega arith }
+pub plan_other : (tables : Tables) (p a : ℕ) (k : AdapterType) → (k ≡ type.DisplayPortIn → ⊥) → (k ≡ type.PcieDown → ⊥) → (k ≡ type.Usb3Down → ⊥) → Plans tables p (λ x. tunnel_by x p a (type_number k)) (Ok None)
+unfolding planned_outcome words_by paths_by plan_if bind
+plan_other tables p a k i j l = record { answers = λ z t n. sym (ap (λ o. bind o (λ t. value (plan_if t))) (none_by (rows_of tables) p a k i j l)); few = omega arith; three = omega arith }
 
 module _ (tables : Tables) (p : ℕ) (f : Facts) (out : List ℕ) (r : Result (Option ℕ) Refusal) (out' : List ℕ) where
   abbrev Told : Type 0
@@ -312,48 +344,57 @@ module _ (tables : Tables) (p : ℕ) (f : Facts) (out : List ℕ) (r : Result (O
       go (value None) = refl
       go (value (Some hi)) = ap (λ n. bind (rings x p f.number 1 n) (λ ts. value (Some ts))) (let z : hi + 1 - 1 ≡ hi = omega arith in z)
 
-  pub told_host : (n : ℕ) → n ≡ type_number f.kind → n ≡ 3 → Answered tables p (λ x. dma_by x p f.number (field_at (adapter_site p f.number) f.max_hop)) out r out' → Told
-  unfolding type_by
-  told_host n e k a = answered_as tables p _ _ out r out' (λ z. host_rings (rows_of tables) (type_is f.kind n e ∙ ap type_by k)) a
+  pub told_host : f.kind ≡ type.HostInterface → Answered tables p (λ x. dma_by x p f.number (field_at (adapter_site p f.number) f.max_hop)) out r out' → Told
+  told_host e a = answered_as tables p _ _ out r out' (λ z. host_rings (rows_of tables) e) a
 
-  -- one plan's tunnel
-  told_one : (o : Rows → Outcome (Option Tunnel)) (plan : Result (Option Planned) Refusal) → ((x : Rows) → discover x p (facts_row p f) ≡ bind (o x) alone) → ((x : Rows) (t : Option Tunnel) → o x ≡ value t → Walks x t) → Plans tables p o plan → OneAnswered tables plan out r out' → Told
-  told_one o plan e w g a = record {
-    follows = λ z t l. subst (λ q. Follows q out r out') (sym (e (rows_of tables))) (a.follows z t (o (rows_of tables)) (g.answers z t l) (w (rows_of tables)));
-    free = a.free;
-  }
+  module _ (h : f.kind ≡ type.HostInterface → ⊥) (on : f.state ≡ state.Enabled) where
+    -- one plan's tunnel
+    kind_as : (x : Rows) → discover x p (facts_row p f) ≡ bind (tunnel_by x p f.number (type_number f.kind)) alone
+    unfolding discover facts_row
+    kind_as x = by_number x p (facts_row p f) f.kind f.state (no_host f.kind h) (ap (λ (s : State). eqb (state_number s) 2) on)
 
-  pub told_enabled : (n s : ℕ) → n ≡ type_number f.kind → s ≡ state_number f.state → (n ≡ 3 → ⊥) → s ≡ 2 → (plan : Result (Option Planned) Refusal) → Plans tables p (λ x. tunnel_by x p f.number n) plan → OneAnswered tables plan out r out' → Told
-  unfolding discover facts_row
-  told_enabled n s e q h on plan g a = told_one (λ x. tunnel_by x p f.number n) plan
-      (λ x. by_number x p (facts_row p f) f.kind f.state (λ k. h (e ∙ k)) (eq-eqb (state_number f.state) 2 (sym q ∙ on)) ∙ ap (λ k. bind (tunnel_by x p f.number k) alone) (sym e))
-      (λ x. tunnel_walks x p f.number n) g a
+    pub told_enabled : (plan : Option Planned) → Plans tables p (λ x. tunnel_by x p f.number (type_number f.kind)) (Ok plan) → OneAnswered tables plan out r out' → Told
+    told_enabled plan g a = record {
+      follows = λ z t l. subst (λ q. Follows q out r out') (sym (kind_as (rows_of tables))) (a.follows z t (tunnel_by (rows_of tables) p f.number (type_number f.kind)) (g.answers z t l) (tunnel_walks (rows_of tables) p f.number (type_number f.kind)));
+      free = a.free;
+    }
+
+-- its plan is refused
+pub told_unplanned : (tables : Tables) (p : ℕ) (f : Facts) (out : List ℕ) → (f.kind ≡ type.HostInterface → ⊥) → f.state ≡ state.Enabled → (e : WalkError) → Plans tables p (λ x. tunnel_by x p f.number (type_number f.kind)) (Err e) → Told tables p f out (Err (of_walk e)) out
+unfolding bind is_given
+told_unplanned tables p f out h on e g = record {
+  follows = λ z t l.
+      let o = tunnel_by (rows_of tables) p f.number (type_number f.kind) in
+      let y = plan_refused e o (g.answers z t l) in
+      subst (λ q. Follows q out (Err (of_walk e)) out) (sym (kind_as tables p f out (Err (of_walk e)) out h on (rows_of tables))) (follows_refused (bind o alone) out (of_walk e) y.0 y.1 (ap (λ q. bind q alone) y.2) y.3);
+  free = free_kept out (Err (of_walk e)) refl (walk_met e);
+}
 
 module _ (tables : Tables) (p : ℕ) (f : Facts) (out : List ℕ) where
   told_none : ((x : Rows) → discover x p (facts_row p f) ≡ value None) → Told tables p f out (Ok None) out
   unfolding is_given
-  told_none e = record { follows = λ z t l. follows_none (discover (rows_of tables) p (facts_row p f)) out (e (rows_of tables)); free = free_kept out (Ok None) refl }
+  told_none e = record { follows = λ z t l. follows_none (discover (rows_of tables) p (facts_row p f)) out (e (rows_of tables)); free = free_kept out (Ok None) refl none_met }
 
   -- a disabled adapter
-  pub told_disabled : (n s : ℕ) → n ≡ type_number f.kind → s ≡ state_number f.state → (n ≡ 3 → ⊥) → (s ≡ 2 → ⊥) → Told tables p f out (Ok None) out
+  pub told_disabled : (f.kind ≡ type.HostInterface → ⊥) → (f.state ≡ state.Enabled → ⊥) → Told tables p f out (Ok None) out
   unfolding discover facts_row
-  told_disabled n s e q a b = told_none (λ x. ap (λ y. cond y (of_kind x p (facts_row p f) f.kind) (value None)) (not_enabled f.kind f.state (λ k. a (e ∙ k)) (λ k. b (q ∙ k))))
+  told_disabled a b = told_none (λ x. ap (λ y. cond y (of_kind x p (facts_row p f) f.kind) (value None)) (not_enabled f.kind f.state a b))
 
 -- ---- the device and the adapter that are asked for
 
 module _ (tables : Tables) (p a : ℕ) (out : List ℕ) where
   pub in_larger : (Sized tables → ⊥) → Discovered tables p a out (Ok None) out
   unfolding is_given
-  in_larger n = let f = free_kept out (Ok None) refl in record { answers = λ z t. absurd (n z); writes = λ z t. absurd (n z); larger = λ k. refl; kept = f.kept; fits = f.fits; tail = f.tail; long = f.long }
+  in_larger n = let f = free_kept out (Ok None) refl none_met in record { answers = λ z t. absurd (n z); writes = λ z t. absurd (n z); larger = λ k. refl; met = f.met; kept = f.kept; fits = f.fits; tail = f.tail; long = f.long }
 
   in_by : (r : Result (Option ℕ) Refusal) (out' : List ℕ) → Sized tables → (Tabled tables → Follows (discover_at (rows_of tables) p a) out r out') → Free out r out' → Discovered tables p a out r out'
-  in_by r out' z f g = record { answers = λ y t. (f t).answers; writes = λ y t. (f t).writes; larger = λ n. absurd (n z); kept = g.kept; fits = g.fits; tail = g.tail; long = g.long }
+  in_by r out' z f g = record { answers = λ y t. (f t).answers; writes = λ y t. (f t).writes; larger = λ n. absurd (n z); met = g.met; kept = g.kept; fits = g.fits; tail = g.tail; long = g.long }
 
   in_missing : Sized tables → (Tabled tables → asked_adapter (rows_of tables) p a ≡ refused 14 []) → Discovered tables p a out (Err refusal.Missing) out
   unfolding is_given discover_at bind
   in_missing z f = in_by (Err refusal.Missing) out z
       (λ t. follows_refused (discover_at (rows_of tables) p a) out refusal.Missing 14 [] (ap (λ o. bind o (λ y. discover (rows_of tables) p y)) (f t)) (λ A. refl))
-      (free_kept out (Err refusal.Missing) refl)
+      (free_kept out (Err refusal.Missing) refl (walk_met walk.Missing))
 
   module _ (z : Sized tables) (d : Option DeviceFacts) (e : device_found p d ≡ device_in (devices_in tables.routes.now tables.marks.now) p) where
     pub no_device : d ≡ None → Discovered tables p a out (Err refusal.Missing) out

@@ -17,13 +17,13 @@ use Rattle.tables.specs.Packed.{entry_word, entries_in}
 use Rattle.receive.specs.Receive.{at, Receive, receive}
 use Rattle.receive.specs.Tables.{Said, said_of, received_outcome, Receives}
 use Rattle.receive.specs.declared.Received.{Received}
-use Rattle.refusal.specs.declared.Refusal.{Refusal}
 use Rattle.receive.proofs.Hops.{walk_none}
 use Rattle.tunnel.specs.Tunnels.{ring_tunnel, one_dma}
 use Rattle.discovery.specs.Work.{among, out_hops, Quiet, Unasked, mark_of, Unmarked, Spared, Resting, Idle}
 use Rattle.discovery.proofs.Past.{unused, receive_alike, bare_tunnel}
 use Rattle.tables.specs.declared.Tables.{Tables}
 use Rattle.tables.specs.Tables.{Tabled, rows_of}
+use Rattle.refusal.specs.declared.WalkError.{WalkError}
 
 -- ---- the HopIDs by which entries leave, one by one
 
@@ -118,7 +118,7 @@ said_value (value r) s e = (r, refl)
 
 module _ (tables : Tables) where
   -- one ring's, for all that no entry leaves by
-  pub quiet : (w : ℕ) (r : Result Received Refusal) (s : Said) → among w (out_hops tables.entries.now) ≡ false → Receives tables w r → received_outcome w r ≡ value s → Quiet tables
+  pub quiet : (w : ℕ) (r : Result Received WalkError) (s : Said) → among w (out_hops tables.entries.now) ≡ false → Receives tables w r → received_outcome w r ≡ value s → Quiet tables
   unfolding rows_of out_hops
   quiet w r s n f e = record {
     searched = λ t v m.

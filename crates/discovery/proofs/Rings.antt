@@ -13,23 +13,23 @@ use lib.ListN.{length, get_or, take, set, replicate, length-append, length-repli
 use lib.Seq.{length-take-le, take_all, get_or-set_other}
 use Rattle.refusal.specs.Outcome.{Outcome, refused, value, bind}
 use Rattle.tables.specs.Rows.{Rows}
-use Rattle.refusal.specs.Refusal.{refused_by}
-use Rattle.refusal.specs.declared.Refusal.{Refusal}
-use Rattle.refusal.proofs.Laws.{refused_bind}
+use Rattle.refusal.specs.Refusal.{refused_by, of_walk}
+use Rattle.refusal.proofs.Laws.{walk_bind}
 use Rattle.path.proofs.Writing.{refused_as_lem}
 use Rattle.tunnel.specs.Tunnels.{Tunnel, one_dma, rings}
 use Rattle.tunnel.specs.Words.{tunnel_words, tunnels_words}
-use Rattle.tunnel.specs.Plans.{Plan, from_by, plan_of, plan_if, planned_outcome, words_by, paths_by, Plans}
+use Rattle.tunnel.specs.Plans.{Plan, plan_of, plan_if, planned_outcome, words_by, paths_by, Plans}
 use Rattle.tunnel.specs.declared.Plan.{Plan as Planned}
 use Rattle.discovery.specs.Work.{Wrote, tally_of, mark_of, Marked, Idle, Drafted, Tallies, RingPut, RingsPut, PlanPut}
 use Rattle.discovery.proofs.Walks.{one_dma_walks}
 use Rattle.discovery.proofs.Writing.{wrote_nothing, wrote_front}
 use Rattle.tables.specs.declared.Tables.{Tables}
 use Rattle.tables.specs.Tables.{Sized, Tabled, rows_of}
+use Rattle.refusal.specs.declared.WalkError.{WalkError}
 
 -- ---- a plan, by what it is the plan of
 
-abbrev Planning : Result (Option Planned) Refusal → Outcome (Option Tunnel) → Type 0
+abbrev Planning : Result (Option Planned) WalkError → Outcome (Option Tunnel) → Type 0
 Planning plan o = planned_outcome plan ≡ bind o (λ t. value (plan_if t))
 
 -- its words are the tunnel's
@@ -38,17 +38,22 @@ unfolding planned_outcome bind plan_if plan_of tally_of tunnels_words
 plan_words (Some p) (refused j vs) e w f = absurd (let z : ◌≡◌ {A = ℕ} 0 1 = cc in omega arith)
 plan_words (Some p) (value None) e w f = absurd (let z : ◌≡◌ {A = ℕ} 0 1 = cc in omega arith)
 plan_words (Some p) (value (Some t)) e w f =
-    let z : record { type = p.kind; closed = p.closed; words = p.words; starts = take p.paths (from_by p.first ∷ from_by p.second ∷ from_by p.third ∷ []) } ≡ plan_of t = cc in
+    let z : record { type = p.kind; closed = p.closed; words = p.words; starts = take p.paths (p.first ∷ p.second ∷ p.third ∷ []) } ≡ plan_of t = cc in
     let u : p.words ≡ length (tunnel_words t) = ap (λ (q : Plan). q.words) z in
     (Some t, refl, omega (arith, f, u, length-append (tunnel_words t) []), e)
 plan_words None (refused j vs) e w f = absurd (let z : ◌≡◌ {A = ℕ} 0 1 = cc in omega arith)
 plan_words None (value None) e w f = (None, refl, sym f, e)
 plan_words None (value (Some t)) e w f = absurd (let z : ◌≡◌ {A = ℕ} 0 1 = cc in omega arith)
 
-pub plan_refused : (r : Refusal) (o : Outcome (Option Tunnel)) → Planning (Err r) o → (k : ℕ) × (vs : List ℕ) × (o ≡ refused k vs) × ((A : Type 0) → refused_by {A = A} r ≡ refused k vs)
+pub plan_refused : (r : WalkError) (o : Outcome (Option Tunnel)) → Planning (Err r) o → (k : ℕ) × (vs : List ℕ) × (o ≡ refused k vs) × ((A : Type 0) → refused_by {A = A} (of_walk r) ≡ refused k vs)
 unfolding planned_outcome bind plan_if
-plan_refused r (refused k vs) e = (k, vs, refl, λ A. sym (refused_bind r (λ y. refused 0 [])) ∙ ap (λ w. bind w (λ y. refused 0 [])) e)
-plan_refused r (value t) e = absurd (let w = refused_as_lem (value (plan_if t)) r e in let v = w.2 in let z : ◌≡◌ {A = ℕ} 0 1 = cc in omega arith)
+plan_refused r (refused k vs) e = (k, vs, refl, λ A. sym (walk_bind r (λ y. refused 0 [])) ∙ ap (λ w. bind w (λ y. refused 0 [])) e)
+plan_refused r (value t) e = absurd (let w = refused_as_lem (value (plan_if t)) (of_walk r) e in let v = w.2 in let z : ◌≡◌ {A = ℕ} 0 1 = cc in omega arith)
+
+-- what is refused, but for what is answered
+pub not_ok : {A E : Type 0} (q : Result A E) → ((a : A) → q ≡ Ok a → ⊥) → (e : E) × (q ≡ Err e)
+not_ok (Ok a) n = absurd (n a refl)
+not_ok (Err e) n = (e, refl)
 
 pub tally_few : (plan : Option Planned) (w : ℕ) → tally_of plan ≡ w → words_by (Ok plan) ≤ 1048576 → w ≤ 1048576
 unfolding tally_of words_by
@@ -143,12 +148,21 @@ module _ (tables : Tables) (p a : ℕ) where
     words = λ z t q o g room. let y = sym (i.rests z t q ring e) ∙ g in let v : None ≡ o = cc in subst (λ k. Wrote at (tunnels_words (option_to_list k)) out at out) v (wrote_nothing at out);
   }
 
-  pub ring_put : (ring : ℕ) (plan : Result (Option Planned) Refusal) → Plans tables p (λ x. one_dma x p a ring) plan → (at : ℕ) (out : List ℕ) (r : ℕ) (out' : List ℕ) → PlanPut tables plan at out r out' → RingPut tables p a ring at out r out'
+  pub ring_put : (ring : ℕ) (plan : Option Planned) → Plans tables p (λ x. one_dma x p a ring) (Ok plan) → (at : ℕ) (out : List ℕ) (r : ℕ) (out' : List ℕ) → PlanPut tables plan at out r out' → RingPut tables p a ring at out r out'
   unfolding bind
   ring_put ring plan f at out r out' w = record {
     within = w.within;
     long = w.long;
     words = λ z t q o e room. w.words z t o (f.answers z t q ∙ ap (λ y. bind y (λ t. value (plan_if t))) e) (one_dma_walks (rows_of tables) p a ring o e) room;
+  }
+
+  -- what refuses its plan refuses the ring, which then has no tunnel
+  pub ring_unput : (ring : ℕ) (r : WalkError) → Plans tables p (λ x. one_dma x p a ring) (Err r) → (at : ℕ) (out : List ℕ) → at ≤ length out → RingPut tables p a ring at out at out
+  unfolding planned_outcome bind
+  ring_unput ring r f at out l = record {
+    within = l;
+    long = refl;
+    words = λ z t q o e room. absurd (let y = refused_as_lem (value (plan_if o)) (of_walk r) (f.answers z t q ∙ ap (λ y. bind y (λ t. value (plan_if t))) e) in let v = y.2 in let u : ◌≡◌ {A = ℕ} 0 1 = cc in omega arith);
   }
 
   pub idle_plan : (idle : List ℕ) → Idle tables p a idle → (ring : ℕ) → get_or idle (mark_of ring) 0 ≡ 1 → Plans tables p (λ x. one_dma x p a ring) (Ok None)
@@ -160,10 +174,10 @@ module _ (tables : Tables) (p a : ℕ) where
   }
 
 -- rings that are refused have no words to draft
-pub drafted_refused : (tables : Tables) (p a k : ℕ) (r : Refusal) → Tallies tables p a k (Err r) → (draft : List ℕ) → Drafted tables p a k draft
+pub drafted_refused : (tables : Tables) (p a k : ℕ) (r : WalkError) → Tallies tables p a k (Err r) → (draft : List ℕ) → Drafted tables p a k draft
 unfolding bind
 drafted_refused tables p a k r t draft = record {
-  words = λ z l q ts e n. absurd (let y = refused_as_lem (value (length (tunnels_words ts))) r (t.counts z l q ∙ ap (λ o. bind o (λ us. value (length (tunnels_words us)))) e) in let v = y.2 in let u : ◌≡◌ {A = ℕ} 0 1 = cc in omega arith);
+  words = λ z l q ts e n. absurd (let y = refused_as_lem (value (length (tunnels_words ts))) (of_walk r) (t.counts z l q ∙ ap (λ o. bind o (λ us. value (length (tunnels_words us)))) e) in let v = y.2 in let u : ◌≡◌ {A = ℕ} 0 1 = cc in omega arith);
 }
 
 -- what was drafted is put
@@ -212,7 +226,7 @@ module _ (tables : Tables) (p a end : ℕ) where
           ∙ ap (λ k. counts (rows_of tables) p a (ring + 1) (end - (ring + 1)) (need + k)) (sym y.2);
     }
 
-    pub counted_refused : (r : Refusal) → Plans tables p (λ x. one_dma x p a ring) (Err r) → Tallies tables p a (end - 1) (Err r)
+    pub counted_refused : (r : WalkError) → Plans tables p (λ x. one_dma x p a ring) (Err r) → Tallies tables p a (end - 1) (Err r)
     counted_refused r f = record {
       counts = λ z t q.
           let y = plan_refused r (one_dma (rows_of tables) p a ring) (f.answers z t q) in

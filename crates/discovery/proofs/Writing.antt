@@ -15,13 +15,11 @@ use Rattle.usb4.specs.declared.TunnelType.{TunnelType}
 use Rattle.usb4.specs.declared.TunnelType.TheVariants as tunnel_type
 use Rattle.path.specs.Words.{path_words, words_needed, with_path}
 use Rattle.path.specs.Put.{WalkPut}
-use Rattle.path.proofs.Writing.{refused_as_lem}
 use Rattle.tunnel.specs.Tunnels.{Path, Tunnel}
 use Rattle.tunnel.specs.Words.{closed, paths_words, tunnel_word, tunnel_words, tunnels_words}
-use Rattle.tunnel.specs.Plans.{From, Plan, from_of, from_by, plan_of, plan_if, planned_as, planned_outcome, paths_by}
+use Rattle.tunnel.specs.Plans.{Plan, from_of, plan_of, plan_if, planned_as, planned_outcome, paths_by}
 use Rattle.tunnel.specs.declared.Start.{Start}
 use Rattle.tunnel.specs.declared.Plan.{Plan as Planned}
-use Rattle.refusal.specs.declared.Refusal.{Refusal}
 use Rattle.discovery.specs.Work.{Wrote, PathPut, AllWalk, Walks, PlanPut}
 use Rattle.tables.specs.declared.Stand.{Stand}
 use Rattle.tables.specs.declared.Tables.{Tables}
@@ -99,7 +97,7 @@ module _ (tables : Tables) (out S : List ℕ) (s : Stand) (name at r : ℕ) (roo
 
 module _ (tables : Tables) where
   -- paths put one after another
-  unfoldable pub Laid : List From → ℕ → List ℕ → ℕ → List ℕ → Type 0
+  unfoldable pub Laid : List Start → ℕ → List ℕ → ℕ → List ℕ → Type 0
   Laid [] at out r out' = (r ≡ at) × (out' ≡ out)
   Laid (f ∷ fs) at out r out' = (m : ℕ) × (mid : List ℕ) × PathPut tables f at out m mid × Laid fs m mid r out'
 
@@ -113,34 +111,30 @@ module _ (tables : Tables) where
       wrote_then at (path_words p.name p.hops) out m mid (omega (arith, n)) w (paths_words ps) r out' (laid_words z t ps a.1 m mid r out' l (omega (arith, n, w.next, f.long)))
 
   -- no tunnel is planned, or there is no room for it
-  pub plan_not_put : (plan : Result (Option Planned) Refusal) (at : ℕ) (out : List ℕ) → at ≤ length out → ((t : Tunnel) → planned_outcome plan ≡ value (Some (plan_of t)) → at < length out → ⊥) → PlanPut tables plan at out at out
+  pub plan_not_put : (plan : Option Planned) (at : ℕ) (out : List ℕ) → at ≤ length out → ((t : Tunnel) → planned_outcome (Ok plan) ≡ value (Some (plan_of t)) → at < length out → ⊥) → PlanPut tables plan at out at out
   unfolding plan_if tunnels_words tunnel_words
   plan_not_put plan at out room never = record { within = room; long = refl; words = λ z t o e w fits. go o e fits }
     where
-      go : (o : Option Tunnel) → planned_outcome plan ≡ value (plan_if o) → at + length (tunnels_words (option_to_list o)) ≤ length out → Wrote at (tunnels_words (option_to_list o)) out at out
+      go : (o : Option Tunnel) → planned_outcome (Ok plan) ≡ value (plan_if o) → at + length (tunnels_words (option_to_list o)) ≤ length out → Wrote at (tunnels_words (option_to_list o)) out at out
       go None e fits = wrote_nothing at out
       go (Some t) e fits = absurd (never t e (omega (arith, length-append (tunnel_words t) [])))
 
-  pub plan_none : (plan : Option Planned) (at : ℕ) (out : List ℕ) → at ≤ length out → plan ≡ None → PlanPut tables (Ok plan) at out at out
+  pub plan_none : (plan : Option Planned) (at : ℕ) (out : List ℕ) → at ≤ length out → plan ≡ None → PlanPut tables plan at out at out
   unfolding planned_outcome
-  plan_none plan at out room k = plan_not_put (Ok plan) at out room (λ t e l. let w = sym (ap (λ z. planned_outcome (Ok z)) k) ∙ e in let z : ◌≡◌ {A = ℕ} 0 1 = cc in omega arith)
+  plan_none plan at out room k = plan_not_put plan at out room (λ t e l. let w = sym (ap (λ z. planned_outcome (Ok z)) k) ∙ e in let z : ◌≡◌ {A = ℕ} 0 1 = cc in omega arith)
 
-  pub plan_unput : (r : Refusal) (at : ℕ) (out : List ℕ) → at ≤ length out → PlanPut tables (Err r) at out at out
-  unfolding planned_outcome
-  plan_unput r at out room = plan_not_put (Err r) at out room (λ t e l. let w = refused_as_lem (value (Some (plan_of t))) r e in let v = w.2 in let z : ◌≡◌ {A = ℕ} 0 1 = cc in omega arith)
-
-  pub plan_full : (plan : Result (Option Planned) Refusal) (at : ℕ) (out : List ℕ) → at ≤ length out → length out ≤ at → PlanPut tables plan at out at out
+  pub plan_full : (plan : Option Planned) (at : ℕ) (out : List ℕ) → at ≤ length out → length out ≤ at → PlanPut tables plan at out at out
   plan_full plan at out room l = plan_not_put plan at out room (λ t e k. omega arith)
 
-  module _ (plan : Result (Option Planned) Refusal) (k : TunnelType) (c : Bool) (w n : ℕ) (a b d : Start) (is-plan : plan ≡ Ok (Some (planned_as k c w n a b d))) (at : ℕ) (out : List ℕ) (room : at < length out) (word : ℕ)
+  module _ (plan : Option Planned) (k : TunnelType) (c : Bool) (w n : ℕ) (a b d : Start) (is-plan : plan ≡ Some (planned_as k c w n a b d)) (at : ℕ) (out : List ℕ) (room : at < length out) (word : ℕ)
       (is : word ≡ 8 * 268435456 + cond c 65536 0 + n * 256 + tunnel_number k) where
-    abbrev three : List From
-    three = from_by a ∷ from_by b ∷ from_by d ∷ []
+    abbrev three : List Start
+    three = a ∷ b ∷ d ∷ []
 
     -- the paths that are planned
-    plan_put : (r : ℕ) (out' : List ℕ) → r ≤ length out → length out' ≡ length out → (fs : List From) → take n three ≡ fs → n ≡ length fs → Laid fs (at + 1) (set out at word) r out' → PlanPut tables plan at out r out'
+    plan_put : (r : ℕ) (out' : List ℕ) → r ≤ length out → length out' ≡ length out → (fs : List Start) → take n three ≡ fs → n ≡ length fs → Laid fs (at + 1) (set out at word) r out' → PlanPut tables plan at out r out'
     unfolding planned_outcome plan_if plan_of tunnels_words tunnel_words tunnel_word Walks
-    plan_put r out' within long fs e l laid = record { within = within; long = long; words = λ z t o q v fits. go z t o (sym (ap planned_outcome is-plan) ∙ q) v fits }
+    plan_put r out' within long fs e l laid = record { within = within; long = long; words = λ z t o q v fits. go z t o (sym (ap (λ y. planned_outcome (Ok y)) is-plan) ∙ q) v fits }
       where
         go : Sized tables → Tabled tables → (o : Option Tunnel) → planned_outcome (Ok (Some (planned_as k c w n a b d))) ≡ value (plan_if o) → Walks (rows_of tables) o → at + length (tunnels_words (option_to_list o)) ≤ length out → Wrote at (tunnels_words (option_to_list o)) out r out'
         go z t None q v fits = absurd (let y : ◌≡◌ {A = ℕ} 0 1 = cc in omega arith)
@@ -160,7 +154,7 @@ module _ (tables : Tables) where
     unfolding Laid
     plan_put_0 l = plan_put _ _ (omega arith) (length-set out at word) [] (ap (λ y. take y three) (let z : n ≡ 0 = omega arith in z)) (omega arith) (refl, refl)
 
-    module _ (i : ℕ) (one : List ℕ) (f : PathPut tables (from_by a) (at + 1) (set out at word) i one) where
+    module _ (i : ℕ) (one : List ℕ) (f : PathPut tables (a) (at + 1) (set out at word) i one) where
       pub one_within : i ≤ length one
       one_within = omega (arith, f.within, f.long)
 
@@ -169,9 +163,9 @@ module _ (tables : Tables) where
 
       pub plan_put_1 : 1 ≤ n → n < 2 → PlanPut tables plan at out i one
       unfolding Laid
-      plan_put_1 g l = plan_put i one (omega (arith, one_within, one_long)) one_long (from_by a ∷ []) (ap (λ y. take y three) (let z : n ≡ 1 = omega arith in z)) (omega arith) (i, one, f, (refl, refl))
+      plan_put_1 g l = plan_put i one (omega (arith, one_within, one_long)) one_long (a ∷ []) (ap (λ y. take y three) (let z : n ≡ 1 = omega arith in z)) (omega arith) (i, one, f, (refl, refl))
 
-      module _ (j : ℕ) (two : List ℕ) (h : PathPut tables (from_by b) i one j two) where
+      module _ (j : ℕ) (two : List ℕ) (h : PathPut tables (b) i one j two) where
         pub two_within : j ≤ length two
         two_within = omega (arith, h.within, h.long)
 
@@ -180,12 +174,12 @@ module _ (tables : Tables) where
 
         pub plan_put_2 : 2 ≤ n → n < 3 → PlanPut tables plan at out j two
         unfolding Laid
-        plan_put_2 g l = plan_put j two (omega (arith, two_within, two_long)) two_long (from_by a ∷ from_by b ∷ []) (ap (λ y. take y three) (let z : n ≡ 2 = omega arith in z)) (omega arith) (i, one, f, (j, two, h, (refl, refl)))
+        plan_put_2 g l = plan_put j two (omega (arith, two_within, two_long)) two_long (a ∷ b ∷ []) (ap (λ y. take y three) (let z : n ≡ 2 = omega arith in z)) (omega arith) (i, one, f, (j, two, h, (refl, refl)))
 
-        pub plan_put_3 : 3 ≤ n → paths_by plan ≤ 3 → (r : ℕ) (out' : List ℕ) → PathPut tables (from_by d) j two r out' → PlanPut tables plan at out r out'
+        pub plan_put_3 : 3 ≤ n → paths_by (Ok plan) ≤ 3 → (r : ℕ) (out' : List ℕ) → PathPut tables (d) j two r out' → PlanPut tables plan at out r out'
         unfolding Laid paths_by
         plan_put_3 g few r out' x =
-            let most : n ≤ 3 = subst (λ y. paths_by y ≤ 3) is-plan few in
+            let most : n ≤ 3 = subst (λ y. paths_by (Ok y) ≤ 3) is-plan few in
             plan_put r out' (omega (arith, x.within, two_long)) (x.long ∙ two_long) three (take_all n three g) (omega arith) (i, one, f, (j, two, h, (r, out', x, (refl, refl))))
 
 -- ---- the head word

@@ -20,4 +20,3 @@ unfoldable pub output_by : Outcome (Option (List Tunnel)) → List ℕ → List 
 output_by (refused n vs) old = old
 output_by (value None) old = old
 output_by (value (Some ts)) old = cond (ltb (length old) (length (tunnels_words ts))) old (tunnels_words ts ++ drop (length (tunnels_words ts)) old)
-

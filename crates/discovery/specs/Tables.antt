@@ -1,5 +1,5 @@
 -- Discovery on tables. Assumes nothing.
-use Rattle.std.specs.Prelude.{ℕ, ◌≤◌, ◌≡◌, false, List, length, drop, None, Ok, Option, Result, Some}
+use Rattle.std.specs.Prelude.{ℕ, ◌≤◌, ◌≡◌, false, List, length, drop, None, Ok, Option, Result, Some, Err}
 use Rattle.refusal.specs.Outcome.{bind}
 use Rattle.discovery.specs.Answers.{discover_at, in_room, output_by}
 use Rattle.refusal.specs.Refusal.{outcome, IsMet, is_given}

@@ -2,7 +2,7 @@
 #![tactic(auto)]
 
 ghost use Rattle.std.specs.Prelude.{ℕ, ◌+◌, ◌*◌, ◌-◌, ◌≤◌, ◌<◌, ◌≡◌, true, cond, List, length, get_or, Ok};
-ghost use Rattle.usb4.specs.Numbers.{tunnel_number};
+ghost use Rattle.usb4.specs.Numbers.{tunnel_number, type_number};
 ghost use Rattle.adapter.specs.Adapter.{facts_row, adapter_site};
 ghost use Rattle.receive.specs.Tables.{Receives};
 ghost use Rattle.tunnel.specs.Tunnels.{discover, one_dma};
@@ -28,7 +28,7 @@ const UNTOLD: usize = 2048;
 
 // The rings of a host interface, an adapter of the device at a place, with what the search for ring 65,535 noted and came to.
 #[derive(Clone, Copy)]
-struct Rings<'a> {
+struct HostRings<'a> {
     tables: Tables<'a>,
     place: usize,
     adapter: u8,
@@ -174,7 +174,7 @@ fn unmark_all(entries: &[u64], place: usize, adapter: u8, idle: &mut [u8])
 }
 
 // The rings that are known to have no tunnel before each is asked, marked with 1.
-fn at_rest(rings: &Rings) -> [u8; 2048]
+fn at_rest(rings: &HostRings) -> [u8; 2048]
     ensures { Receives rings.now.tables 65535 rings.now.last → Idle rings.now.tables rings.now.place rings.now.adapter result }
 {
     if !is_quiet(&rings.tables, rings.last) {
@@ -235,7 +235,7 @@ fn noted_path(tables: &Tables, note: u64) -> Result<Received, WalkError>
 }
 
 // The receive path of a ring: by notes, where there are fewer than `UNTOLD`, with `last` for the rings that have none; else by a search.
-fn received_by(rings: &Rings, ring: u16) -> Result<Received, WalkError>
+fn received_by(rings: &HostRings, ring: u16) -> Result<Received, WalkError>
     requires { Told rings.now.tables rings.now.notes.now rings.now.last }
     ensures { Receives rings.now.tables ring result }
 {
@@ -253,7 +253,7 @@ fn received_by(rings: &Rings, ring: u16) -> Result<Received, WalkError>
 }
 
 // A ring's tunnel.
-fn plan_ring(rings: &Rings, ring: u16) -> Result<Option<Plan>, WalkError>
+fn plan_ring(rings: &HostRings, ring: u16) -> Result<Option<Plan>, WalkError>
     requires { Told rings.now.tables rings.now.notes.now rings.now.last }
     ensures { Plans rings.now.tables rings.now.place (λ x. one_dma x rings.now.place rings.now.adapter ring) result }
 {
@@ -281,7 +281,7 @@ fn mark(idle: &mut [u8; 2048], ring: u32, words: usize)
 
 // The words of the tunnels of rings 1 to `end`, which is left out; the rings that have none are marked, and the words are drafted as far as there is room.
 fn tally_rings(
-    rings: &Rings,
+    rings: &HostRings,
     end: u32,
     idle: &mut [u8; 2048],
     draft: &mut [u32],
@@ -293,13 +293,14 @@ fn tally_rings(
     let mut at: usize = 0;
     let mut need: usize = 0;
     for ring in 1..end {
-        if !is_idle(idle, ring) {
-            let plan = plan_ring(rings, ring as u16)?;
-            let words = tally_plan(plan);
-            need += words;
-            mark(idle, ring, words);
-            at = put_plan(&rings.tables, plan, draft, at);
+        if is_idle(idle, ring) {
+            continue;
         }
+        let plan = plan_ring(rings, ring as u16)?;
+        let words = tally_plan(plan);
+        need += words;
+        mark(idle, ring, words);
+        at = put_plan(&rings.tables, plan, draft, at);
     }
     Ok(need)
 }
@@ -312,13 +313,7 @@ fn is_idle(idle: &[u8; 2048], ring: u32) -> bool
 }
 
 // Writes the tunnel of a ring from a place of the output on, unless the ring is marked; the place after it.
-fn put_ring(
-    rings: &Rings,
-    ring: u32,
-    idle: &[u8; 2048],
-    output: &mut [u32],
-    at: usize,
-) -> usize
+fn put_ring(rings: &HostRings, ring: u32, idle: &[u8; 2048], output: &mut [u32], at: usize) -> usize
     requires { (ring < 65536) × (at ≤ length output.old) × Idle rings.now.tables rings.now.place rings.now.adapter idle.now × Told rings.now.tables rings.now.notes.now rings.now.last }
     ensures { RingPut rings.now.tables rings.now.place rings.now.adapter ring at output.old result output.new }
 {
@@ -332,7 +327,7 @@ fn put_ring(
 }
 
 // Writes the tunnels of rings 1 to `end`, which is left out, until the output is full.
-fn put_rings(rings: &Rings, end: u32, idle: &[u8; 2048], output: &mut [u32])
+fn put_rings(rings: &HostRings, end: u32, idle: &[u8; 2048], output: &mut [u32])
     requires { (1 ≤ end) × (end ≤ 65536) × Idle rings.now.tables rings.now.place rings.now.adapter idle.now × Told rings.now.tables rings.now.notes.now rings.now.last }
     ensures { RingsPut rings.now.tables rings.now.place rings.now.adapter (end - 1) output.old output.new }
 {
@@ -346,7 +341,7 @@ fn put_rings(rings: &Rings, end: u32, idle: &[u8; 2048], output: &mut [u32])
 }
 
 // Writes the tunnels of rings 1 to `end`, which is left out: as they were drafted, if there was room for them.
-fn put_tallied(rings: &Rings, end: u32, idle: &[u8; 2048], draft: &[u32], output: &mut [u32])
+fn put_tallied(rings: &HostRings, end: u32, idle: &[u8; 2048], draft: &[u32], output: &mut [u32])
     requires { (1 ≤ end) × (end ≤ 65536) × Idle rings.now.tables rings.now.place rings.now.adapter idle.now × Drafted rings.now.tables rings.now.place rings.now.adapter (end - 1) draft.now × Told rings.now.tables rings.now.notes.now rings.now.last }
     ensures { RingsPut rings.now.tables rings.now.place rings.now.adapter (end - 1) output.old output.new }
 {
@@ -379,11 +374,7 @@ fn put_one(
 }
 
 // The tunnels of rings 1 to `end`, which is left out, by what the search for ring 65,535 noted and came to.
-fn put_noted(
-    rings: &Rings,
-    end: u32,
-    output: &mut [u32],
-) -> Result<Option<usize>, Refusal>
+fn put_noted(rings: &HostRings, end: u32, output: &mut [u32]) -> Result<Option<usize>, Refusal>
     requires { (1 ≤ end) × (end ≤ 65536) × Told rings.now.tables rings.now.notes.now rings.now.last × Receives rings.now.tables 65535 rings.now.last }
     ensures { Answered rings.now.tables rings.now.place (λ x. ring_list x rings.now.place rings.now.adapter (end - 1)) output.old result output.new }
 {
@@ -412,7 +403,7 @@ fn put_far(
     let last = searched.found;
     let notes = searched.notes;
     let count = known_notes(last, searched.noted);
-    let rings = Rings {
+    let rings = HostRings {
         tables: *tables,
         place,
         adapter,
@@ -444,7 +435,7 @@ fn put_searched(
     if 63 < count {
         return put_searched(tables, place, adapter, end, true, output);
     }
-    let rings = Rings {
+    let rings = HostRings {
         tables: *tables,
         place,
         adapter,

@@ -8,28 +8,17 @@ use adapter::EntryOut;
 use refusal::Refusal;
 use tables::Stand;
 
-// The first valid entry for a HopID.
-pub fn path(
-    descriptions: &[u32],
-    survey: &[u32],
-    place: usize,
-    number: u8,
-    in_hop: u16,
-) -> Result<Option<EntryOut>, Refusal>
-    ensures { path_outcome place number in_hop result ≡ path_answer descriptions.now survey.now place number in_hop }
+// The first valid entry for a HopID at an adapter of the device at a place.
+pub fn path(descriptions: &[u32], survey: &[u32], stand: Stand) -> Result<Option<EntryOut>, Refusal>
+    ensures { path_outcome stand.place stand.adapter stand.hop_id result ≡ path_answer descriptions.now survey.now stand.place stand.adapter stand.hop_id }
 {
     let loaded = load::load(descriptions, survey);
     let tables = loaded.tables()?;
-    if tables.routes.len() <= place {
+    if tables.routes.len() <= stand.place {
         return Err(Refusal::Missing);
     }
-    let Some(_) = search::find_adapter(tables.adapters, place, number) else {
+    let Some(_) = search::find_adapter(tables.adapters, stand.place, stand.adapter) else {
         return Err(Refusal::Missing);
-    };
-    let stand = Stand {
-        place,
-        adapter: number,
-        hop_id: in_hop,
     };
     let found = search::find_entry(tables.entries, stand);
     Ok(found)

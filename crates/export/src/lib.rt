@@ -11,7 +11,6 @@ ghost use Rattle.metadata.specs.Calls.{describe_answer, field_answer};
 ghost use Rattle.acceptance.specs.Accepted.{accepted_answer};
 ghost use Rattle.adapters.specs.Calls.{adapter_answer, speed_answer, max_hop_answer};
 ghost use Rattle.parents.specs.Parents.{parent_answer};
-ghost use Rattle.walk.specs.Walking.{Stand};
 ghost use Rattle.answers.specs.Said.{said, always, perhaps, one, bare, register_words, hex_of_bits};
 ghost use Rattle.lookups.specs.Handed.{OursSaid};
 ghost use Rattle.replies.specs.Replies.{counts_words, info_words, speed_words};
@@ -189,7 +188,12 @@ pub extern "C" fn tunnels_walk(
 )
     ensures { WalkSaid descriptions.now survey.now (record { place = place; adapter = adapter; hop_id = hop }) output.old output.new answer.new }
 {
-    let a = findings::walk(walks::discover_path(descriptions, survey, place, adapter, hop, output));
+    let stand = Stand {
+        place,
+        adapter,
+        hop_id: hop,
+    };
+    let a = findings::walk(walks::discover_path(descriptions, survey, stand, output));
     *answer = a;
 }
 

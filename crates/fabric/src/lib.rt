@@ -83,12 +83,7 @@ fn go_down(tables: &Tables, d: DeviceFacts, route: u64) -> Result<Next, WalkErro
 }
 
 // From a lane of a router: up if it is the upstream adapter, or 11 at depth 0; else down, or 12 at depth 8.
-fn lane_leads(
-    tables: &Tables,
-    place: usize,
-    d: DeviceFacts,
-    adapter: u8,
-) -> Result<Next, WalkError>
+fn lane_leads(tables: &Tables, place: usize, d: DeviceFacts, adapter: u8) -> Result<Next, WalkError>
     ensures { LeadsTo tables.now (λ x. lane_leads x place (device_row place d) adapter) result }
 {
     let site = Site { place, adapter };

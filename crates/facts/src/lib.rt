@@ -11,111 +11,71 @@ use adapter::Facts;
 use refusal::FieldError;
 use usb4::{AdapterType, Speed, State};
 
-// A kind by its number.
+// A kind by its number. A kind, a state and a speed have codes of registers besides (`codes`): so these have names, and are no `From<u64>`.
+#[tactic(auto, unfolding(tables::specs::Packed::type_by))]
 fn type_by(number: u64) -> AdapterType
     ensures { result ≡ type_by number }
 {
-    if number == 1 {
-        return AdapterType::Inactive;
+    match number {
+        1 => AdapterType::Inactive,
+        2 => AdapterType::Lane,
+        3 => AdapterType::HostInterface,
+        4 => AdapterType::DisplayPortIn,
+        5 => AdapterType::DisplayPortOut,
+        6 => AdapterType::PcieDown,
+        7 => AdapterType::PcieUp,
+        8 => AdapterType::Usb3Down,
+        9 => AdapterType::Usb3Up,
+        10 => AdapterType::Usb3GenTDown,
+        11 => AdapterType::Usb3GenTUp,
+        _ => AdapterType::Unknown,
     }
-    if number == 2 {
-        return AdapterType::Lane;
-    }
-    if number == 3 {
-        return AdapterType::HostInterface;
-    }
-    if number == 4 {
-        return AdapterType::DisplayPortIn;
-    }
-    if number == 5 {
-        return AdapterType::DisplayPortOut;
-    }
-    if number == 6 {
-        return AdapterType::PcieDown;
-    }
-    if number == 7 {
-        return AdapterType::PcieUp;
-    }
-    if number == 8 {
-        return AdapterType::Usb3Down;
-    }
-    if number == 9 {
-        return AdapterType::Usb3Up;
-    }
-    if number == 10 {
-        return AdapterType::Usb3GenTDown;
-    }
-    if number == 11 {
-        return AdapterType::Usb3GenTUp;
-    }
-    AdapterType::Unknown
 }
 
 // A state by its number.
+#[tactic(auto, unfolding(tables::specs::Packed::state_by))]
 fn state_by(number: u64) -> State
     ensures { result ≡ state_by number }
 {
-    if number == 1 {
-        return State::Disabled;
+    match number {
+        1 => State::Disabled,
+        2 => State::Enabled,
+        3 => State::Training,
+        4 => State::Cl0,
+        5 => State::Cl0sTx,
+        6 => State::Cl0sRx,
+        7 => State::Cl1,
+        8 => State::Cl2,
+        9 => State::Cld,
+        _ => State::Unknown,
     }
-    if number == 2 {
-        return State::Enabled;
-    }
-    if number == 3 {
-        return State::Training;
-    }
-    if number == 4 {
-        return State::Cl0;
-    }
-    if number == 5 {
-        return State::Cl0sTx;
-    }
-    if number == 6 {
-        return State::Cl0sRx;
-    }
-    if number == 7 {
-        return State::Cl1;
-    }
-    if number == 8 {
-        return State::Cl2;
-    }
-    if number == 9 {
-        return State::Cld;
-    }
-    State::Unknown
 }
 
 // A speed by its number, or that it is refused.
+#[tactic(auto, unfolding(tables::specs::Packed::speed_by))]
 fn speed_by(number: u64) -> Result<Speed, FieldError>
     ensures { (s : Site) → field_at s result ≡ speed_by s number }
 {
-    if number == 1 {
-        return Ok(Speed::Gen2);
+    match number {
+        1 => Ok(Speed::Gen2),
+        2 => Ok(Speed::Gen3),
+        3 => Ok(Speed::Gen4),
+        4 => Err(FieldError::NoField), // 6 where it is asked for
+        _ => Ok(Speed::Unknown),
     }
-    if number == 2 {
-        return Ok(Speed::Gen3);
-    }
-    if number == 3 {
-        return Ok(Speed::Gen4);
-    }
-    if number == 4 {
-        return Err(FieldError::NoField); // 6 where it is asked for
-    }
-    Ok(Speed::Unknown)
 }
 
 // A largest HopID by its code.
+#[tactic(auto, unfolding(tables::specs::Packed::number_by))]
 fn max_hop_by(code: u64) -> Result<Option<u32>, FieldError>
     requires { code < 1048576 }
     ensures { (s : Site) → field_at s result ≡ number_by s code }
 {
-    if code < 1 {
-        return Ok(None);
+    match code {
+        0 => Ok(None),
+        1 => Err(FieldError::NoField),
+        _ => Ok(Some((code - 2) as u32)),
     }
-    if code < 2 {
-        return Err(FieldError::NoField);
-    }
-    Ok(Some((code - 2) as u32))
 }
 
 // The adapter that a word holds.

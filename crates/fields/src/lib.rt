@@ -34,12 +34,10 @@ fn same_name(t: &[u32], p: usize, n: u32, name: &[u8]) -> bool
     if name.len() != n as usize {
         return false;
     }
-    let mut j: usize = 0;
-    while j < name.len() {
-        if lower_case(layout::byte_at(t, p, j)) != lower_case(name[j] as u32) {
+    for (j, &b) in name.iter().enumerate() {
+        if lower_case(layout::byte_at(t, p, j)) != lower_case(b as u32) {
             return false;
         }
-        j += 1;
     }
     true
 }

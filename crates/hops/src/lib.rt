@@ -7,6 +7,7 @@ ghost use Rattle.hops.specs.Records.{hop_at, filled};
 ghost use Rattle.hops.specs.Work.{Ready};
 
 use refusal::Refusal;
+use tables::Stand;
 
 // A hop: where it was made, and where it leads.
 #[derive(Clone, Copy)]
@@ -58,26 +59,17 @@ fn fill(words: &[u32], records: &mut [Hop], n: usize)
     requires { n ≤ length records.old }
     ensures { records.new ≡ filled words.now n records.old }
 {
-    let mut i = 0;
-    while i < n {
-        records[i] = hop_at(words, i);
-        i += 1;
+    for (i, record) in records[..n].iter_mut().enumerate() {
+        *record = hop_at(words, i);
     }
 }
 
 // The core's walk, and what it comes to for so many records. It is never short of words; its other refusals are the call's.
-fn walk_for(
-    descriptions: &[u32],
-    survey: &[u32],
-    place: usize,
-    adapter: u8,
-    hop: u16,
-    room: usize,
-) -> Walked
-    ensures { Ready descriptions.now survey.now (record { place = place; adapter = adapter; hop_id = hop }) room result.answer result.count result.words }
+fn walk_for(descriptions: &[u32], survey: &[u32], stand: Stand, room: usize) -> Walked
+    ensures { Ready descriptions.now survey.now stand room result.answer result.count result.words }
 {
     let mut words = [0; 8193];
-    let walked = walks::discover_path(descriptions, survey, place, adapter, hop, &mut words);
+    let walked = walks::discover_path(descriptions, survey, stand, &mut words);
     match walked {
         Ok(Some(n)) => {
             if room < n {
@@ -110,14 +102,12 @@ fn walk_for(
 pub fn hop_records(
     descriptions: &[u32],
     survey: &[u32],
-    place: usize,
-    adapter: u8,
-    hop: u16,
+    stand: Stand,
     records: &mut [Hop],
 ) -> Result<Option<usize>, Refusal>
-    ensures { HopsDone descriptions.now survey.now (record { place = place; adapter = adapter; hop_id = hop }) records.old result records.new }
+    ensures { HopsDone descriptions.now survey.now stand records.old result records.new }
 {
-    let walked = walk_for(descriptions, survey, place, adapter, hop, records.len());
+    let walked = walk_for(descriptions, survey, stand, records.len());
     let words = walked.words;
     fill(&words, records, walked.count);
     walked.answer

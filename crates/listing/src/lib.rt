@@ -9,6 +9,7 @@ pub fn next_register(survey: &[u32], from: usize, path: bool) -> usize
     ensures { NextRegister survey.now path from result }
 {
     let mut i = from;
+    // A register's group is passed by its 4 words, so the places are in no range.
     while i < survey.len() {
         let w = survey[i];
         let kind = w / 268435456 % 16;
@@ -38,6 +39,7 @@ pub fn next_head(survey: &[u32], from: usize) -> usize
     ensures { NextHead survey.now from result }
 {
     let mut i = from;
+    // As above: 4 words or 1.
     while i < survey.len() {
         let kind = survey[i] / 268435456 % 16;
         if kind == 4 {

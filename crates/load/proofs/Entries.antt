@@ -258,6 +258,6 @@ module _ (ds : List Description) (s : Site) (k : AdapterType) (t en : List ℕ) 
       (none_behind s en n i entries (ap (λ o. entries_by ds s (type_number k) (after t i).entries o) (sym e ∙ z)), record { forward = le_refl i; within = l; few = m; adapters = refl; devices = refl })
 
   module _ (least : ℕ) (z : f ≡ Some least) where
-    pub by_least : (c : ℕ) → c ≡ type_number k → (r : Outcome (List EntryRow)) → r ≡ behind s en n (entries_from ds s c least (after t i).entries) → r ≡ behind s en n entries
+    pub by_least : (r : Outcome (List EntryRow)) → r ≡ behind s en n (entries_from ds s (type_number k) least (after t i).entries) → r ≡ behind s en n entries
     unfolding entries_by
-    by_least c h r g = g ∙ ap (λ x. behind s en n (entries_from ds s x least (after t i).entries)) h ∙ ap (λ o. behind s en n (entries_by ds s (type_number k) (after t i).entries o)) (sym (least_is k f e least z))
+    by_least r g = g ∙ ap (λ o. behind s en n (entries_by ds s (type_number k) (after t i).entries o)) (sym (least_is k f e least z))

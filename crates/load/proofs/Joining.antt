@@ -28,6 +28,7 @@ use Rattle.listing.specs.After.{after, listed, register_at, adapter_at, device_a
 use Rattle.listing.proofs.Laws.{after_end, adapter_head_lem, device_head_lem, register_end}
 use Rattle.tables.specs.Rows.{DeviceRow, Rows, no_rows, joined}
 use Rattle.usb4.specs.Codes.{device_kind_of}
+use Rattle.usb4.specs.declared.Kind.{Kind}
 use Rattle.adapter.specs.Adapter.{adapter_site}
 use Rattle.tables.specs.Packed.{adapter_word, device_word, entries_in, adapters_in, devices_from, devices_in}
 use Rattle.tables.proofs.Laws.{rising_entries, rising_adapters}
@@ -309,10 +310,11 @@ module _ (t : List ℕ) (at w : ℕ) (e : w ≡ word t at) where
   same_usb4 = ap (λ x. eqb x 1) (let z : w % 2 ≡ bits (word t at) 0 0 = omega (arith, e) in z)
 
   -- its mark's row
-  pub mark_row : (ds : List Description) (p m : ℕ) (domain : ℕ) (up : Result (Option ℕ) FieldError) → domain ≡ word t (at + 1) → field_at (adapter_site p 0) up ≡ upstream_in p (router_cs1 ds (device_at t at)) → ((p route : ℕ) → device_word p route m ≡ record { kind = device_kind_of (w / 16777216 % 16); usb4 = eqb (w % 2) 1; domain = domain; route = route; upstream = field_at (adapter_site p 0) up }) → device_word p (device_at t at).route m ≡ device_row ds p (device_at t at)
+  pub mark_row : (ds : List Description) (p m : ℕ) (kind : Kind) (domain : ℕ) (up : Result (Option ℕ) FieldError) → kind ≡ device_kind_of (w / 16777216 % 16) → domain ≡ word t (at + 1) → field_at (adapter_site p 0) up ≡ upstream_in p (router_cs1 ds (device_at t at)) → ((p route : ℕ) → device_word p route m ≡ record { kind = kind; usb4 = eqb (w % 2) 1; domain = domain; route = route; upstream = field_at (adapter_site p 0) up }) → device_word p (device_at t at).route m ≡ device_row ds p (device_at t at)
   unfolding device_row device_at
-  mark_row ds p m domain up d u f =
+  mark_row ds p m kind domain up h d u f =
       f p (device_at t at).route
+      ∙ ap (λ x. record { kind = x; usb4 = eqb (w % 2) 1; domain = domain; route = (device_at t at).route; upstream = field_at (adapter_site p 0) up }) h
       ∙ ap (λ x. record { kind = device_kind_of (x / 16777216 % 16); usb4 = eqb (w % 2) 1; domain = domain; route = (device_at t at).route; upstream = field_at (adapter_site p 0) up }) e
       ∙ ap (λ x. record { kind = device_kind_of (device_at t at).kind; usb4 = x; domain = domain; route = (device_at t at).route; upstream = field_at (adapter_site p 0) up }) same_usb4
       ∙ ap (λ x. record { kind = device_kind_of (device_at t at).kind; usb4 = (device_at t at).usb4; domain = x; route = (device_at t at).route; upstream = field_at (adapter_site p 0) up }) d

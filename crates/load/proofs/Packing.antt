@@ -3,12 +3,15 @@ use Rattle.std.specs.Prelude.{Err, None, Ok, Option, Result, Some}
 use Prim.Native.Nat.{ℕ, suc, ◌+◌, ◌*◌, ◌/◌, ◌%◌, ◌^◌, ◌<◌, ◌≤◌}
 use native.Mathlib.Omega.{arith}
 use mathlib.Core.Path.{◌≡◌, refl, ◌∙◌, ap, sym, subst}
-use mathlib.Core.Bool.{Bool}
+use mathlib.Core.Bool.{Bool, true, false}
+use Rattle.std.specs.Int.{from_bool}
 use lib.Dec.{eqb}
 use Rattle.refusal.specs.Outcome.{value}
 use Rattle.refusal.specs.declared.Site.{Site}
-use Rattle.usb4.specs.Codes.{device_kind_of}
-use Rattle.usb4.specs.Numbers.{type_number, state_number, speed_number}
+use Rattle.usb4.specs.Numbers.{type_number, state_number, speed_number, device_kind_number}
+use Rattle.usb4.proofs.Laws.{kind_back}
+use Rattle.usb4.specs.declared.Kind.{Kind}
+use Rattle.usb4.specs.declared.Kind.TheVariants as kind
 use Rattle.usb4.specs.declared.AdapterType.{AdapterType}
 use Rattle.usb4.specs.declared.AdapterType.TheVariants as type
 use Rattle.usb4.specs.declared.State.{State}
@@ -34,6 +37,11 @@ entry_word_lem w p a i o h e la li lo lh =
     let e4 : w / 2 ^ 16 % 256 ≡ o = omega arith in
     let e5 : w % 65536 ≡ h = omega arith in
     rw (e1, e2, e3, e4, e5) refl
+
+-- a flag as a bit
+pub flag_bit : (b : Bool) (z : ℕ) → z ≡ from_bool b → (z < 2) × (eqb z 1 ≡ b)
+flag_bit true z e = (omega (arith, e), ap (λ x. eqb x 1) e)
+flag_bit false z e = (omega (arith, e), ap (λ x. eqb x 1) e)
 
 -- how large the numbers of cases are
 pub type_bound : (k : AdapterType) → type_number k < 12
@@ -131,23 +139,32 @@ module _ (p h k t v z o : ℕ) (f : Facts) (la : f.number < 256)
     (ek : k ≡ type_number f.kind)
     (et : t ≡ state_number f.state)
     (ev : (v < 16) × ((s : Site) → speed_by s v ≡ field_at s f.speed))
-    (ez : (z < 2) × (eqb z 1 ≡ f.lane0))
-    (eo : (o < 2) × (eqb o 1 ≡ f.lane1)) where
+    (ez : z ≡ from_bool f.lane0)
+    (eo : o ≡ from_bool f.lane1) where
   pub adapter_word_lem : adapter_word (p * 281474976710656 + f.number * 1099511627776 + h * 1048576 + k * 65536 + t * 4096 + v * 256 + z * 16 + o) ≡ facts_row p f
   unfolding adapter_word facts_row
-  adapter_word_lem = rw (m.device, m.number, m.hop, m.kind, m.state, m.speed, m.lane0, m.lane1, ek, et, type_round f.kind, state_round f.state, ez.1, eo.1, ev.1 (adapter_site p f.number), eh.1 (adapter_site p f.number)) refl
+  adapter_word_lem = rw (m.device, m.number, m.hop, m.kind, m.state, m.speed, m.lane0, m.lane1, ek, et, type_round f.kind, state_round f.state, (flag_bit f.lane0 z ez).1, (flag_bit f.lane1 o eo).1, ev.1 (adapter_site p f.number), eh.1 (adapter_site p f.number)) refl
     where
       m : Parts (p * 281474976710656 + f.number * 1099511627776 + h * 1048576 + k * 65536 + t * 4096 + v * 256 + z * 16 + o) p f.number h k t v z o
-      m = parts _ p f.number h k t v z o refl la eh.0 (omega (arith, type_bound f.kind)) (omega (arith, state_bound f.state)) ev.0 (omega (arith, ez.0)) (omega (arith, eo.0))
+      m = parts _ p f.number h k t v z o refl la eh.0 (omega (arith, type_bound f.kind)) (omega (arith, state_bound f.state)) ev.0 (omega (arith, (flag_bit f.lane0 z ez).0)) (omega (arith, (flag_bit f.lane1 o eo).0))
 
 -- a device's mark
 mark_parts : (w b k c d : ℕ) → w ≡ b * 4503599627370496 + k * 281474976710656 + c * 4294967296 + d → b < 16 → k < 16 → c < 65536 → d < 4294967296
     → (w / 2 ^ 48 % 16 ≡ k) × (w / 2 ^ 52 % 16 ≡ b) × (w % 2 ^ 32 ≡ d) × (w / 2 ^ 32 % 2 ^ 16 ≡ c)
 mark_parts w b k c d e lb lk lc ld = (omega arith, omega arith, omega arith, omega arith)
 
-module _ (k d b c : ℕ) (usb4 : Bool) (f : Result (Option ℕ) FieldError) (lk : k < 16) (ld : d < 4294967296) (eb : (b < 2) × (eqb b 1 ≡ usb4)) (ec : (c < 65536) × ((s : Site) → upstream_by s c ≡ field_at s f)) where
-  pub mark_word : (p route : ℕ) → device_word p route (b * 4503599627370496 + k * 281474976710656 + c * 4294967296 + d) ≡ record { kind = device_kind_of k; usb4 = usb4; domain = d; route = route; upstream = field_at (adapter_site p 0) f }
+device_bound : (k : Kind) → device_kind_number k < 16
+device_bound kind.Domain = omega arith
+device_bound kind.Router = omega arith
+device_bound kind.Xdomain = omega arith
+device_bound kind.Retimer = omega arith
+device_bound kind.Service = omega arith
+device_bound kind.Unknown = omega arith
+
+module _ (k : Kind) (n d b c : ℕ) (usb4 : Bool) (f : Result (Option ℕ) FieldError) (en : n ≡ device_kind_number k) (ld : d < 4294967296) (eb : b ≡ from_bool usb4) (ec : (c < 65536) × ((s : Site) → upstream_by s c ≡ field_at s f)) where
+  pub mark_word : (p route : ℕ) → device_word p route (b * 4503599627370496 + n * 281474976710656 + c * 4294967296 + d) ≡ record { kind = k; usb4 = usb4; domain = d; route = route; upstream = field_at (adapter_site p 0) f }
   unfolding device_word
   mark_word p route =
-      let m = mark_parts _ b k c d refl (omega (arith, eb.0)) lk ec.0 ld in
-      rw (m.0, m.1, m.2, m.3, eb.1, ec.1 (adapter_site p 0)) refl
+      let flag = flag_bit usb4 b eb in
+      let m = mark_parts _ b n c d refl (omega (arith, flag.0)) (omega (arith, en, device_bound k)) ec.0 ld in
+      rw (m.0, m.1, m.2, m.3, flag.1, en, kind_back k, ec.1 (adapter_site p 0)) refl

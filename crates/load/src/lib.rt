@@ -6,7 +6,6 @@ ghost use Rattle.refusal.specs.Outcome.{value, bind};
 ghost use Rattle.refusal.specs.declared.Site.{Site};
 ghost use Rattle.layout.specs.Description.{Description, descriptions_of};
 ghost use Rattle.usb4.specs.Numbers.{type_number};
-ghost use Rattle.usb4.specs.Codes.{device_kind_of};
 ghost use Rattle.named.specs.Named.{named_at, Within};
 ghost use Rattle.survey.specs.Devices.{devices_of};
 ghost use Rattle.listing.specs.After.{after, adapter_at, device_at, register_at};
@@ -21,11 +20,12 @@ ghost use Rattle.refusal.specs.Refusal.{fault_outcome, outcome, field_at};
 
 use adapter::Facts;
 use named::NamedAt;
+use naming::Space;
 use paths::EntryFields;
 use refusal::{Fault, FieldError, Refusal, Site};
 use std::marker::Model;
 use tables::Tables;
-use usb4::{AdapterType, Speed};
+use usb4::{AdapterType, Kind, Speed};
 
 // How many words of each table are used: how many rows of each kind there are.
 #[derive(Clone, Copy)]
@@ -132,7 +132,7 @@ fn speed_code(speed: Result<Speed, FieldError>) -> u64
     ensures { (result < 16) × ((s : Site) → speed_by s result ≡ field_at s speed) }
 {
     match speed {
-        Ok(v) => usb4::speed_number(v) as u64,
+        Ok(v) => u32::from(v) as u64,
         Err(FieldError::NoField) => 4,
     }
 }
@@ -149,30 +149,21 @@ fn hop_code(hop: Result<Option<u32>, FieldError>) -> u64
     }
 }
 
-// 1 for true.
-fn bit(b: bool) -> u64
-    ensures { (result < 2) × (eqb result 1 ≡ b) }
-{
-    if b { 1 } else { 0 }
-}
-
 // An adapter as a word.
 fn adapter_word(place: usize, f: Facts) -> u64
     requires { (place < 65536) × HopFits f.max_hop }
     ensures { adapter_word result ≡ facts_row place f }
 {
-    let kind = f.kind;
-    let state = f.state;
     let speed = f.speed;
     let hop = f.max_hop;
     (place as u64) * 281474976710656
         + (f.number as u64) * 1099511627776
         + hop_code(hop) * 1048576
-        + (usb4::type_number(kind) as u64) * 65536
-        + (usb4::state_number(state) as u64) * 4096
+        + (u32::from(f.kind) as u64) * 65536
+        + (u32::from(f.state) as u64) * 4096
         + speed_code(speed) * 256
-        + bit(f.lane0) * 16
-        + bit(f.lane1)
+        + u64::from(f.lane0) * 16
+        + u64::from(f.lane1)
 }
 
 // An upstream adapter as a code: 0 none, 1 refused, else the number and 2.
@@ -187,20 +178,26 @@ fn upstream_code(upstream: Result<Option<u8>, FieldError>) -> u64
 }
 
 // A device's mark: USB4, kind, upstream adapter, domain.
-fn mark_word(kind: u32, usb4: bool, domain: u32, upstream: Result<Option<u8>, FieldError>) -> u64
-    requires { kind < 16 }
-    ensures { (p route : ℕ) → device_word p route result ≡ record { kind = device_kind_of kind; usb4 = usb4; domain = domain; route = route; upstream = field_at (adapter_site p 0) upstream } }
+fn mark_word(kind: Kind, usb4: bool, domain: u32, upstream: Result<Option<u8>, FieldError>) -> u64
+    ensures { (p route : ℕ) → device_word p route result ≡ record { kind = kind; usb4 = usb4; domain = domain; route = route; upstream = field_at (adapter_site p 0) upstream } }
 {
-    bit(usb4) * 4503599627370496
-        + (kind as u64) * 281474976710656
+    u64::from(usb4) * 4503599627370496
+        + (u32::from(kind) as u64) * 281474976710656
         + upstream_code(upstream) * 4294967296
         + (domain as u64)
 }
 
 // The fields for the path register at i: those that are kept, unless it is looked at and has other ids.
-fn keep(descriptions: &[u32], survey: &[u32], i: usize, kind: u32, least: u32, kept: Kept) -> Kept
-    requires { (i + 4 ≤ length survey.now) × KeptFor (descriptions_of descriptions.now) kind kept }
-    ensures { KeptFor (descriptions_of descriptions.now) kind result × FieldsAt (descriptions_of descriptions.now) kind least (register_at survey.now i) result.fields }
+fn keep(
+    descriptions: &[u32],
+    survey: &[u32],
+    i: usize,
+    kind: AdapterType,
+    least: u32,
+    kept: Kept,
+) -> Kept
+    requires { (i + 4 ≤ length survey.now) × KeptFor (descriptions_of descriptions.now) (type_number kind) kept }
+    ensures { KeptFor (descriptions_of descriptions.now) (type_number kind) result × FieldsAt (descriptions_of descriptions.now) (type_number kind) least (register_at survey.now i) result.fields }
 {
     if !hopids::looked_at(layout::word_at(survey, i) % 65536, least) {
         return kept;
@@ -215,7 +212,7 @@ fn keep(descriptions: &[u32], survey: &[u32], i: usize, kind: u32, least: u32, k
     Kept {
         ids,
         vs,
-        fields: paths::fields_of(descriptions, kind, ids, vs),
+        fields: paths::fields_of(descriptions, u32::from(kind), ids, vs),
     }
 }
 
@@ -265,14 +262,14 @@ fn push_from(
     descriptions: &[u32],
     survey: &[u32],
     from: usize,
-    kind: u32,
+    kind: AdapterType,
     least: u32,
     site: Site,
     entries: &mut [u64],
     n: usize,
 ) -> Result<Pushed, FieldError>
     requires { (from ≤ length survey.now) × (4 * n ≤ from) × (length survey.now ≤ 4 * length entries.old) × (site.place < 65536) × (least < 65536) }
-    ensures rows { pushed_rows site entries.new result ≡ bind (entries_from (descriptions_of descriptions.now) site kind least (after survey.now from).entries) (λ es. value (entries_in (take n entries.old) ++ map (owned site.place site.adapter) es)) }
+    ensures rows { pushed_rows site entries.new result ≡ bind (entries_from (descriptions_of descriptions.now) site (type_number kind) least (after survey.now from).entries) (λ es. value (entries_in (take n entries.old) ++ map (owned site.place site.adapter) es)) }
     ensures within { PushedWithin survey.now from result }
 {
     let mut count = n;
@@ -284,7 +281,7 @@ fn push_from(
     let mut kept = Kept {
         ids: 0,
         vs: 0,
-        fields: paths::fields_of(descriptions, kind, 0, 0),
+        fields: paths::fields_of(descriptions, u32::from(kind), 0, 0),
     };
     while i < survey.len() {
         kept = keep(descriptions, survey, i, kind, least, kept);
@@ -319,16 +316,7 @@ fn push_entries(
             next: at + 1,
         });
     };
-    push_from(
-        descriptions,
-        survey,
-        at + 1,
-        usb4::type_number(kind),
-        least,
-        site,
-        entries,
-        n,
-    )
+    push_from(descriptions, survey, at + 1, kind, least, site, entries, n)
 }
 
 // The adapter whose head stands at a place: 5, state, 9, entries.
@@ -421,7 +409,14 @@ fn router_cs_1(descriptions: &[u32], survey: &[u32], at: usize) -> Option<NamedA
     if w / 2 % 2 != 1 {
         return None;
     }
-    named::by_name(descriptions, survey, at + 4, 0, 0, b"ROUTER_CS_1")
+    named::by_name(
+        descriptions,
+        survey,
+        at + 4,
+        Space::Router as u32,
+        0,
+        b"ROUTER_CS_1",
+    )
 }
 
 // The upstream adapter by ROUTER_CS_1.
@@ -518,7 +513,7 @@ fn load_device(
     let usb4 = w % 2 == 1;
     let upstream = upstream_of(descriptions, survey, cs1);
     let mark = mark_word(
-        w / 16777216 % 16,
+        Kind::from(w / 16777216 % 16),
         usb4,
         layout::word_at(survey, at + 1),
         upstream,

@@ -10,8 +10,8 @@ use lib.Pointwise.{pointwise}
 use lib.ListN.{length, get_or}
 use borrow.Author.Tests.{le-leb, lt-leb}
 use Rattle.scan.specs.Scan.{tokens}
-use Rattle.scan.specs.declared.Span.{Span}
-use Rattle.scan.proofs.Laws.{Spans}
+use Rattle.scan.specs.declared.Part.{Part}
+use Rattle.scan.proofs.Laws.{Firsts}
 use Rattle.util.specs.Number.{hex_number, decimal_number}
 use Rattle.util.specs.Text.{bytes_of}
 use Rattle.util.proofs.Laws.{decimal_le}
@@ -137,25 +137,25 @@ more_tokens (t ∷ u ∷ []) h = absurd (omega arith)
 more_tokens (t ∷ u ∷ v ∷ []) h = absurd (omega arith)
 more_tokens (t ∷ u ∷ v ∷ w ∷ ts) h = refl
 
-module _ {s : List ℕ} {a b c d : Span} (n : Spans s a b c d) where
-  pub marker_none : length s ≤ a.start → bad ≡ marker_of s
+module _ {s : List ℕ} {a b c d : Part} (n : Firsts s a b c d) where
+  pub marker_none : eqb (length a.text.now) 0 ≡ true → bad ≡ marker_of s
   unfolding marker_of
   marker_none h = sym (no_token (tokens s) (n.n0.missing h))
 
-  pub marker_more : d.start < length s → bad ≡ marker_of s
+  pub marker_more : eqb (length d.text.now) 0 ≡ false → bad ≡ marker_of s
   unfolding marker_of
   marker_more h = sym (more_tokens (tokens s) (n.n3.there h))
 
-  module _ (ha : a.start < length s) (ta : List ℕ) (ea : ta ≡ get_or (tokens s) 0 []) where
-    pub marker_one : length s ≤ b.start → plain_marker ta ≡ marker_of s
+  module _ (ha : eqb (length a.text.now) 0 ≡ false) where
+    pub marker_one : eqb (length b.text.now) 0 ≡ true → plain_marker a.text.now ≡ marker_of s
     unfolding marker_of
-    marker_one h = ap plain_marker ea ∙ sym (one_token (tokens s) (omega (arith, n.n0.there ha, n.n1.missing h)))
+    marker_one h = ap plain_marker n.n0.text ∙ sym (one_token (tokens s) (omega (arith, n.n0.there ha, n.n1.missing h)))
 
-    module _ (hb : b.start < length s) (tb : List ℕ) (eb : tb ≡ get_or (tokens s) 1 []) where
-      pub marker_two : length s ≤ c.start → adapter_marker ta tb ≡ marker_of s
+    module _ (hb : eqb (length b.text.now) 0 ≡ false) where
+      pub marker_two : eqb (length c.text.now) 0 ≡ true → adapter_marker a.text.now b.text.now ≡ marker_of s
       unfolding marker_of
-      marker_two h = ap (λ t. adapter_marker t tb) ea ∙ ap (λ t. adapter_marker (get_or (tokens s) 0 []) t) eb ∙ sym (two_tokens (tokens s) (omega (arith, n.n1.there hb, n.n2.missing h)))
+      marker_two h = rw (n.n0.text, n.n1.text) (sym (two_tokens (tokens s) (omega (arith, n.n1.there hb, n.n2.missing h))))
 
-      pub marker_three : c.start < length s → length s ≤ d.start → (tc : List ℕ) → tc ≡ get_or (tokens s) 2 [] → device_marker ta tb tc ≡ marker_of s
+      pub marker_three : eqb (length c.text.now) 0 ≡ false → eqb (length d.text.now) 0 ≡ true → device_marker a.text.now b.text.now c.text.now ≡ marker_of s
       unfolding marker_of
-      marker_three hc h tc ec = ap (λ t. device_marker t tb tc) ea ∙ ap (λ t. device_marker (get_or (tokens s) 0 []) t tc) eb ∙ ap (λ t. device_marker (get_or (tokens s) 0 []) (get_or (tokens s) 1 []) t) ec ∙ sym (three_tokens (tokens s) (omega (arith, n.n2.there hc, n.n3.missing h)))
+      marker_three hc h = rw (n.n0.text, n.n1.text, n.n2.text) (sym (three_tokens (tokens s) (omega (arith, n.n2.there hc, n.n3.missing h))))

@@ -92,19 +92,17 @@ pub fn marker(line: &[u8]) -> Mark
     let b = scan::token(line, a.end);
     let c = scan::token(line, b.end);
     let d = scan::token(line, c.end);
-    if line.len() <= a.start {
+    if a.text.is_empty() {
         return Mark::Bad;
     }
-    if d.start < line.len() {
+    if !d.text.is_empty() {
         return Mark::Bad;
     }
-    let ta = scan::part(line, a);
-    if line.len() <= b.start {
-        return plain(ta);
+    if b.text.is_empty() {
+        return plain(a.text);
     }
-    let tb = scan::part(line, b);
-    if line.len() <= c.start {
-        return adapter(ta, tb);
+    if c.text.is_empty() {
+        return adapter(a.text, b.text);
     }
-    device(ta, tb, scan::part(line, c))
+    device(a.text, b.text, c.text)
 }

@@ -2,18 +2,20 @@
 #![tactic(auto)]
 
 ghost use Rattle.std.specs.Prelude.{◌≡◌, length};
+ghost use Rattle.usb4.specs.Numbers.{type_number};
 ghost use Rattle.layout.specs.Layout.{bits, low};
 ghost use Rattle.layout.specs.Description.{described, descriptions_of};
 ghost use Rattle.naming.specs.Naming.{naming};
 ghost use Rattle.fields.specs.Names.{find_field};
 ghost use Rattle.metadata.specs.Calls.{value_in, flag_in};
 ghost use Rattle.listing.specs.After.{after};
-ghost use Rattle.named.specs.Named.{having_name, found_named, by_name, named_at, Within};
+ghost use Rattle.named.specs.Named.{adapter_space, having_name, found_named, by_name, named_at, Within};
 ghost use Rattle.refusal.specs.Refusal.{field_read};
 ghost use Rattle.named.specs.Work.{Spans, Widened, Counted};
 
-use naming::Sought;
+use naming::{Sought, Space};
 use refusal::FieldError;
+use usb4::AdapterType;
 
 // A register by the place of its group in the survey, and its description by the place of its group in the descriptions.
 #[derive(Clone, Copy)]
@@ -115,7 +117,7 @@ fn name_group(
     Some(group)
 }
 
-// The first register of adapter space from a place on, before the next head, that has the name.
+// The first register of adapter space from a place on, before the next head, that has the name. Space and kind are as in `naming::Sought`, where any numbers may be asked for.
 pub fn by_name(
     descriptions: &[u32],
     survey: &[u32],
@@ -139,6 +141,27 @@ pub fn by_name(
         i = listing::next_register(survey, i + 4, false);
     }
     None
+}
+
+// The same by the descriptions of adapter space, for an adapter of a kind.
+pub fn of_adapter(
+    descriptions: &[u32],
+    survey: &[u32],
+    from: usize,
+    kind: AdapterType,
+    name: &[u8],
+) -> Option<NamedAt>
+    ensures answer { named_at descriptions.now survey.now result ≡ by_name (descriptions_of descriptions.now) adapter_space (type_number kind) name.now (after survey.now from).registers }
+    ensures within { Within (length survey.now) result }
+{
+    by_name(
+        descriptions,
+        survey,
+        from,
+        Space::Adapter as u32,
+        u32::from(kind),
+        name,
+    )
 }
 
 // A field's value, of the register group at a place of the descriptions.

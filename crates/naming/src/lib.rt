@@ -7,7 +7,15 @@ ghost use Rattle.layout.specs.Description.{had, descriptions_of};
 ghost use Rattle.naming.specs.Work.{candidate};
 ghost use Rattle.naming.specs.Naming.{kind_fits, cap_fits, vs_fits, naming, router_naming, place_of};
 
-// A register as it is looked up: its space, the adapter's kind (as usb4::type_number gives it), its relative offset and ids.
+// The spaces of registers, by their numbers in description words.
+#[derive(Clone, Copy)]
+pub enum Space {
+    Router = 0,
+    Adapter = 1,
+    Path = 2,
+}
+
+// A register as it is looked up: its space, the number of the adapter's kind, its relative offset and ids. Any numbers may be asked for (the exported call on descriptions hands them on), so space and kind are no enums.
 #[derive(Clone, Copy)]
 pub struct Sought {
     pub space: u32,
@@ -24,7 +32,7 @@ fn kind_fits(space: u32, kind: u32, list: u32) -> bool
     if list / 4096 % 2 != 1 {
         return true;
     }
-    if space == 0 {
+    if space == Space::Router as u32 {
         return true;
     }
     if 12 <= kind {
@@ -119,8 +127,8 @@ pub fn find_router_group(descriptions: &[u32], offset: u32, cap: u32, vs: u32) -
     find_group(
         descriptions,
         Sought {
-            space: 0,
-            kind: 0,
+            space: Space::Router as u32,
+            kind: 0, // plays no part there
             offset,
             cap,
             vs,

@@ -13,11 +13,7 @@ use tables::{DeviceFacts, Tables};
 use usb4::Kind;
 
 // A router's parent by its upstream adapter.
-fn router_parent(
-    tables: &Tables,
-    place: usize,
-    d: DeviceFacts,
-) -> Result<Option<usize>, Fault>
+fn router_parent(tables: &Tables, place: usize, d: DeviceFacts) -> Result<Option<usize>, Fault>
     ensures { ParentIs tables.now place (λ x. router_parent x place (device_row place d)) result }
 {
     let upstream = d.upstream;
@@ -36,11 +32,7 @@ fn router_parent(
 }
 
 // An xdomain's parent by its route.
-fn xdomain_parent(
-    tables: &Tables,
-    place: usize,
-    d: DeviceFacts,
-) -> Result<Option<usize>, Fault>
+fn xdomain_parent(tables: &Tables, place: usize, d: DeviceFacts) -> Result<Option<usize>, Fault>
     ensures { fault_outcome result ≡ xdomain_parent (rows_of tables.now) place (device_row place d) }
 {
     let site = Site { place, adapter: 0 };

@@ -13,7 +13,7 @@ ghost use Rattle.paths.specs.Reading.{fields_for, leads, read_by};
 
 use adapter::EntryOut;
 use fields::BitField;
-use naming::Sought;
+use naming::{Sought, Space};
 use refusal::FieldError;
 
 // Where the fields of a path entry stand.
@@ -47,12 +47,12 @@ pub fn entry_by(fields: EntryFields, value: u32) -> Result<Option<EntryOut>, Fie
     leads_to(fields, value)
 }
 
-// The fields of path registers with these ids, by the number of their adapter's kind.
+// The fields of path registers with these ids, by the number of their adapter's kind: any number may be asked for, as in `naming::Sought`.
 pub fn fields_of(descriptions: &[u32], kind: u32, ids: u32, vs: u32) -> EntryFields
     ensures { result ≡ fields_for (descriptions_of descriptions.now) kind ids vs }
 {
     let q = Sought {
-        space: 2,
+        space: Space::Path as u32,
         kind,
         offset: ids / 65536 % 65536,
         cap: ids % 65536,
@@ -72,7 +72,7 @@ pub fn fields_of(descriptions: &[u32], kind: u32, ids: u32, vs: u32) -> EntryFie
     }
 }
 
-// A path register's entry, by its words and the number of its adapter's kind.
+// A path register's entry, by its words and the number of its adapter's kind, likewise.
 pub fn entry_of(
     descriptions: &[u32],
     kind: u32,

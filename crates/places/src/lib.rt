@@ -32,13 +32,11 @@ pub fn device_group(survey: &[u32], place: usize) -> Option<Bounds>
     ensures { result ≡ group_at survey.now place }
 {
     let mut at = next_device(survey, 0);
-    let mut k: usize = 0;
-    while k < place {
+    for _ in 0..place {
         if survey.len() <= at {
             return None;
         }
         at = next_device(survey, at + 4);
-        k += 1;
     }
     if survey.len() <= at {
         return None;

@@ -1,7 +1,7 @@
 -- Every page is written whole: none is refused once all adapters were tried, and a buffer of 43 bytes for each of 16,384 words has room for any. Assumes nothing.
 use Prim.Native.Nat.{ℕ, zero, suc, ◌≤◌, ◌<◌}
 use native.Mathlib.Omega.{arith}
-use mathlib.Core.Path.{◌≡◌, ap, ◌∙◌}
+use mathlib.Core.Path.{◌≡◌, sym, ap, ◌∙◌}
 use mathlib.Core.List.{List, [], ◌∷◌}
 use Rattle.std.specs.Prelude.{Option, None, Some, Result, Ok, Err}
 use borrow.Author.Tests.{ltb-false}
@@ -22,9 +22,9 @@ use Rattle.printed.proofs.Room.{lines_short, fits_room}
 use Rattle.report.specs.Report.{words_by, answer_of}
 use Rattle.report.specs.Tables.{page_by, page_at, page_outcome, output_by, Paged}
 use Rattle.refusal.specs.declared.Refusal.{Refusal}
-use Rattle.program.specs.Opened.{used_rows, tried, Opens}
+use Rattle.load.specs.Answers.{tables_rows}
+use Rattle.program.specs.Opened.{found_by, open_of, Opens}
 use Rattle.program.specs.declared.Opened.{Opened}
-use Rattle.program.proofs.Used.{used}
 use Rattle.tables.specs.declared.Tables.{Tables}
 use Rattle.tables.specs.Tables.{Fits, Tabled, rows_of}
 
@@ -41,11 +41,11 @@ short_page x zero (y ∷ ys) =
     (λ ws l. holds_value (omega (arith, lines_short ws)))
 short_page x (suc k) (y ∷ ys) = short_page x k ys
 
--- on tables in order
-in_order : (tables : Tables) (k : ℕ) (out : List ℕ) (r : Result (Result ℕ Refusal) Refusal) (out' : List ℕ) → Paged tables k out r out' → Fits tables → Tabled tables → 704512 ≤ length out → length out < most
+-- of tables in order, no larger than a survey's
+pub page_written : (tables : Tables) (k : ℕ) (out : List ℕ) (r : Result (Result ℕ Refusal) Refusal) (out' : List ℕ) → Paged tables k out r out' → Fits tables → Tabled tables → 704512 ≤ length out → length out < most
     → (s : List ℕ) → page_at (rows_of tables) k ≡ value s → (r ≡ Ok (Ok (length s))) × (take (length s) out' ≡ s)
 unfolding page_at page_outcome output_by bind
-in_order tables k out r out' w f es l m s e =
+page_written tables k out r out' w f es l m s e =
     let x = rows_of tables in
     let q : page_outcome r ≡ value (length s) = w.answers f es ∙ ap (λ o. bind o (in_room (length out))) e ∙ fits_room s (length out) (omega (arith, (short_page x k x.adapters).by s e)) m in
     (bytes r q, ap (take (length s)) (w.writes f es ∙ ap (λ o. output_by (page_outcome r) o out) e ∙ ap (λ o. output_by o (value s) out) q) ∙ take-append_seam s (drop (length s) out))
@@ -54,9 +54,7 @@ in_order tables k out r out' w f es l m s e =
     bytes (Ok q) g = ap Ok (outcome_ok q (length s) g)
     bytes (Err q) g = absurd (not_refused q (length s) g)
 
--- on the tables of a text
-pub page_written : {t : List ℕ} {o : Opened} {e a d n : ℕ} → Opens t o → o.answer ≡ tried e a d n
-    → (k : ℕ) (out : List ℕ) (r : Result (Result ℕ Refusal) Refusal) (out' : List ℕ) → Paged (take e o.entries) (take a o.adapters) (take d o.routes) (take d o.marks) k out r out' → 704512 ≤ length out → length out < most
-    → (s : List ℕ) → page_at (used_rows o e a d) k ≡ value s → (r ≡ Ok (Ok (length s))) × (take (length s) out' ≡ s)
-unfolding used_rows
-page_written h g k out r out' w l m s p = let u = used h g in in_order _ k out r out' w u.fits u.order l m s p
+-- such are the tables of a text that was opened, and their rows are the text's
+pub opened_rows : {t : List ℕ} {o : Opened} → Opens t o → (n : ℕ) → o.answer ≡ Ok n → (tables : Tables) → tables_rows (Ok tables) ≡ o.loaded → open_of t ≡ value (record { rows = rows_of tables; tunnels = n })
+unfolding found_by tables_rows bind
+opened_rows {t} {o} h n e tables is = sym h.answers ∙ ap (found_by o.loaded) e ∙ ap (λ y. found_by y (Ok n)) (sym is)

@@ -13,7 +13,7 @@ use Rattle.printed.specs.Printed.{lines_of, total_line}
 use Rattle.report.specs.Report.{answer_of, answers_of, total_of, pages_of, report_of}
 use Rattle.report.specs.Tables.{page_by, page_at}
 use Rattle.program.specs.Program.{rows_in, said, program_of}
-use Rattle.program.specs.Opened.{Found, found_in, open_of, opened_by, Opens}
+use Rattle.program.specs.Opened.{Found, found_in, open_of, found_by, Opens}
 use Rattle.program.specs.Written.{Pages, Written}
 use Rattle.program.specs.declared.Opened.{Opened}
 
@@ -77,8 +77,8 @@ pub only : (t s : List ℕ) → Written (open_of t) s → s ≡ program_of t
 only t s h = same_written (open_of t) s (program_of t) h (whole t)
 
 -- of what the call answered
-pub opened_only : (t s : List ℕ) (o : Opened) → Opens t o → Written (opened_by o o.answer) s → s ≡ program_of t
+pub opened_only : (t s : List ℕ) (o : Opened) → Opens t o → Written (found_by o.loaded o.answer) s → s ≡ program_of t
 opened_only t s o h w = only t s (subst (λ f. Written f s) h.answers w)
 
-pub opened_whole : (t : List ℕ) (o : Opened) → Opens t o → Written (opened_by o o.answer) (program_of t)
+pub opened_whole : (t : List ℕ) (o : Opened) → Opens t o → Written (found_by o.loaded o.answer) (program_of t)
 opened_whole t o h = subst (λ f. Written f (program_of t)) (sym h.answers) (whole t)

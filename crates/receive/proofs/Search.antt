@@ -161,6 +161,7 @@ module _ (tables : Tables) (ring : ℕ) where
       → Searches (length notes) tables ring a noted notes
   ends a ws noted notes w few whole = record {
     comes = record { answers = λ t. sym (whole t ring ∙ notes_none (rows_of tables) ring ws (received_outcome ring a) w.others); few = few };
+    long = refl;
     within = w.within;
     tells = λ p l. record { tells = λ t v. whole t v ∙ ap (λ (z : List ℕ). by_notes (rows_of tables) v z (received_outcome v a)) (sym (w.kept l)) };
   }
@@ -274,6 +275,7 @@ module _ (tables : Tables) (ring : ℕ) where
       unfolding Stepped end_hops hops_by is_path
       among_fits p e = record {
         comes = record { answers = λ t. look (Ok (step.Fits p)) e t _ ∙ sym (s.whole t ring ∙ notes_none (rows_of tables) ring s.ws _ s.written.others); few = omega (arith, k.few, ap end_hops e) };
+        long = refl;
         within = s.written.within;
         tells = λ z l. absurd (true≢false z);
       }

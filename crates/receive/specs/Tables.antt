@@ -85,5 +85,6 @@ pub record Receives (tables : Tables) (ring : ℕ) (r : Result Received WalkErro
 -- The same with notes for the search of other rings, in a list that has room for some number of them. Document 01 has none. Fewer than the room, where no path is found, tell with what is found what the search for any ring comes to. The rest is free, and only time hangs on it: how many there are, up to the room, which tell nothing, as any number does where a path is found; the notes themselves then; their order under different rings; a second note under a ring; a note that says no more than what is found; and the words after the notes.
 pub record Searches (room : ℕ) (tables : Tables) (ring : ℕ) (found : Result Received WalkError) (noted : ℕ) (notes : List ℕ) : Type 0 where
   pub comes : Receives tables ring found
+  pub long : length notes ≡ room
   pub within : noted ≤ room
   pub tells : is_path found ≡ false → noted < room → Foretells tables (take noted notes) found

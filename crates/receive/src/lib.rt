@@ -94,11 +94,7 @@ fn hops_of(place: usize, f: Facts) -> Result<LaneFound, WalkError>
 }
 
 // Of the router at place q, the adapter beneath which a device hangs.
-fn beneath(
-    tables: &Tables,
-    d: DeviceFacts,
-    q: usize,
-) -> Result<LaneFound, WalkError>
+fn beneath(tables: &Tables, d: DeviceFacts, q: usize) -> Result<LaneFound, WalkError>
     ensures { (p : ℕ) → LaneIs tables.now (λ x. under_router x (device_row p d) q (device_in x.devices q)) result }
 {
     let Some(e) = routers::find_device(tables, q) else {
@@ -125,10 +121,7 @@ fn taken(d: DeviceFacts) -> bool
 }
 
 // Where the receive paths of the device at a place come in: an xdomain's, at its parent.
-fn lane_of(
-    tables: &Tables,
-    place: usize,
-) -> Result<LaneFound, WalkError>
+fn lane_of(tables: &Tables, place: usize) -> Result<LaneFound, WalkError>
     ensures { LaneIs tables.now (λ x. lane_at x place) result }
 {
     let Some(d) = routers::find_device(tables, place) else {

@@ -8,7 +8,7 @@ ghost use Rattle.refusals.specs.Told.{refused_as, sited_as};
 
 use refusal::{Fault, Refusal, Site};
 
-// A refusal's number, how many values come with it, and the values, 0 where there are fewer.
+// A refusal's number, how many values come with it, and the values, 0 where there are fewer. Numbers on purpose: the enum is Refusal, and this is what document 01's table and those who print or store a refusal write of it.
 #[derive(Clone, Copy)]
 pub struct Numbers {
     pub number: u8,

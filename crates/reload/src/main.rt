@@ -3,95 +3,58 @@
 // each line of totals says `differ 1` and where.
 #![tactic(auto)]
 
-mod case;
 mod lists;
 mod loads;
 mod starts;
+mod words;
 
-ghost use Rattle.std.specs.Prelude.{◌<◌, ◌≤◌, length};
-
+use cases::Compare;
 use std::rt::Files;
 use std::{fs, io};
 
-// `first` is the line of the first case that differs, from 1 on; 0 where all agree.
-#[derive(Clone, Copy)]
-struct Totals {
-    cases: usize,
-    agree: usize,
-    differ: usize,
-    first: usize,
+// The set of descriptions that surveys go by, of which `held` words are in hand.
+#[derive(Drop)]
+struct InHand {
+    set: [u32; 16400],
+    held: usize,
 }
 
-// The place after the line that starts at `start`.
-fn line_end(text: &[u8], start: usize) -> usize
-    requires { start < length text.now }
-    ensures within { result ≤ length text.now }
-    ensures onward { start < result }
-{
-    let end = scan::line_end(text, start);
-    if end < text.len() {
-        return end + 1;
-    }
-    text.len()
-}
-
-// The first line that differs, where `before` is what it was so far.
-fn first_of(before: usize, agreed: usize, line: usize) -> usize {
-    if 0 < agreed {
-        return before;
-    }
-    if 0 < before {
-        return before;
-    }
-    line
-}
-
-fn count_cases(text: &[u8], words: &mut [u32]) -> Totals {
-    let mut cases: usize = 0;
-    let mut agree: usize = 0;
-    let mut first: usize = 0;
-    let mut held: usize = 0;
-    let mut start = 0;
-    while start < text.len() {
-        let end = line_end(text, start);
-        let step = loads::load_line(&text[start..end], words, held);
-        held = step.held;
-        let agreed = case::one(step.agrees);
-        agree += agreed;
-        cases += 1;
-        first = first_of(first, agreed, cases);
-        start = end;
-    }
-    Totals {
-        cases: cases,
-        agree: agree,
-        differ: cases - agree,
-        first: first,
+impl InHand {
+    // The case's kind stands first: 0 a set of descriptions, 1 a survey that goes by the set in hand.
+    fn words_agree(&mut self, words: &[u32]) -> bool {
+        match words {
+            [0, list @ ..] => match cases::list(list, &mut self.set) {
+                Some(n) => {
+                    self.held = n;
+                    true
+                }
+                None => false,
+            },
+            [_, rest @ ..] => match self.set.get(..self.held) {
+                Some(descriptions) => loads::survey_agrees(rest, descriptions),
+                None => false,
+            },
+            _ => false,
+        }
     }
 }
 
-fn print_count(rt: &impl Print, words: &str, n: usize) -> io::Result<()> {
-    print!(rt; "{words}{n}")
+impl Compare for InHand {
+    fn agrees(&mut self, line: &[u8]) -> bool {
+        let mut words = [0u32; 32768];
+        match cases::words(line, &mut words) {
+            Some(n) => self.words_agree(&words[..n]),
+            None => false,
+        }
+    }
 }
 
-// Replays the file of that name. One that is missing or too long says so instead of totals.
 fn replay(rt: &(impl Files + Print), name: &str) -> io::Result<()> {
-    rt.print(name)?;
-    let Ok(mut file) = fs::open(rt, name) else {
-        return rt.print(" missing\n");
+    let mut of = InHand {
+        set: [0; 16400],
+        held: 0,
     };
-    let mut text = case::room();
-    let n = input::read_full(&mut file, &mut text)?;
-    if n == 1000000 {
-        return rt.print(" too long\n");
-    }
-    let mut words = [0u32; 16400];
-    let t = count_cases(&text[..n], &mut words);
-    print_count(rt, " ", t.cases)?;
-    print_count(rt, " agree ", t.agree)?;
-    print_count(rt, " differ ", t.differ)?;
-    print_count(rt, " at ", t.first)?;
-    rt.print("\n")
+    cases::replay(name, fs::open(rt, name), &mut of, &mut io::writer(rt))
 }
 
 fn main(rt: HostRuntime) -> io::Result<()> {

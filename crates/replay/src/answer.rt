@@ -1,57 +1,47 @@
-// The answers of the Rust: whether a call's answer is what the words from `at` on say.
-use crate::case::{after, ends};
+// The answers of the Rust: whether a call's answer is what the words say.
 use register::Register;
 
-fn wide(x: u16) -> u32 {
+fn short(x: u16) -> u32 {
     x as u32
 }
 
-// The place after the record's five words, or the line's length where others stand.
-pub fn after_record(line: &[u8], at: usize, r: Register) -> usize {
-    let words = [
-        wide(r.offset),
-        wide(r.relative_offset),
-        wide(r.cap_id),
-        wide(r.vs_cap_id),
-        r.value,
-    ];
-    after(line, at, &words)
+// The number whose low and high words these are.
+pub fn wide(low: u32, high: u32) -> u64 {
+    low as u64 + high as u64 * 4294967296
 }
 
-pub fn number_agrees(line: &[u8], at: usize, number: Option<u64>) -> bool {
+// A record's five words.
+pub fn record_words(r: Register) -> [u32; 5] {
+    [
+        short(r.offset),
+        short(r.relative_offset),
+        short(r.cap_id),
+        short(r.vs_cap_id),
+        r.value,
+    ]
+}
+
+pub fn number_agrees(words: &[u32], number: Option<u64>) -> bool {
     match number {
-        None => ends(line, at),
-        Some(v) => {
-            let words = [(v % 4294967296) as u32, (v / 4294967296) as u32];
-            ends(line, after(line, at, &words))
-        }
+        None => words.is_empty(),
+        Some(v) => match words {
+            [low, high] => wide(*low, *high) == v,
+            _ => false,
+        },
     }
 }
 
-pub fn line_agrees(line: &[u8], at: usize, input: &[u8]) -> bool {
-    let answer = register::parse_debugfs(input);
-    match answer {
-        Ok(Some(r)) => ends(line, after_record(line, at, r)),
-        Ok(None) => ends(line, at),
+pub fn line_agrees(words: &[u32], input: &[u8]) -> bool {
+    match register::parse_debugfs(input) {
+        Ok(Some(r)) => words == record_words(r).as_slice(),
+        Ok(None) => words.is_empty(),
         Err(_) => false,
     }
 }
 
-pub fn dump_agrees(
-    line: &[u8],
-    at: usize,
-    input: &[u8],
-    scratch: &mut [u32],
-    output: &mut [u32],
-) -> bool {
-    let answer = dump::read(input, scratch, output);
-    match answer {
-        Ok(n) => {
-            if output.len() / 4 < n {
-                return false;
-            }
-            ends(line, after(line, at, &output[..4 * n]))
-        }
+pub fn dump_agrees(words: &[u32], input: &[u8], scratch: &mut [u32], output: &mut [u32]) -> bool {
+    match dump::read(input, scratch, output) {
+        Ok(n) => words.len() % 4 == 0 && words.len() / 4 == n && output.starts_with(words),
         Err(_) => false,
     }
 }

@@ -33,11 +33,7 @@ fn larger(tables: &Tables) -> bool
 }
 
 // The result words of the adapter at an index of the table.
-fn answer_at(
-    tables: &Tables,
-    index: usize,
-    words: &mut [u32],
-) -> Result<usize, Refusal>
+fn answer_at(tables: &Tables, index: usize, words: &mut [u32]) -> Result<usize, Refusal>
     requires { (index < length tables.now.adapters.now) × (length words.old ≡ 16384) }
     ensures { Answered tables.now index result words.new }
 {
@@ -50,9 +46,7 @@ fn answer_at(
 }
 
 // Tries each adapter in order; how many tunnels there are in all, or the first refusal.
-pub fn try_all(
-    tables: &Tables,
-) -> Result<usize, Refusal>
+pub fn try_all(tables: &Tables) -> Result<usize, Refusal>
     ensures { Tries tables.now result }
 {
     if larger(tables) {

@@ -1,89 +1,54 @@
-// What the program prints of a text, page by page, against the stored answer: each call gives the index after the pairs of what is printed, or the stored
-// answer's length where others stand.
-ghost use Rattle.std.specs.Prelude.{◌≤◌, ◌≡◌, length};
+// What the program prints of a text, page by page, against the stored answer: each call gives what follows what is printed, or none where other bytes stand.
+use refusal::Refusal;
+use tables::Tables;
 
-use crate::case::after;
-use load::Counts;
-
-// As much as the program lends for a page.
-fn page_room() -> [u8; 786432]
-    ensures { 786432 ≡ length result }
-{
-    [0; 786432]
-}
-
-fn after_refused(stored: &[u8], number: u8) -> usize {
+fn after_refused(stored: &[u8], refusal: Refusal) -> Option<&[u8]> {
+    let number = refusals::numbers_of(refusal).number;
     let mut line = [0u8; 16];
-    let Ok(n) = summary::refused(number, &mut line) else {
-        return stored.len();
-    };
-    after(stored, 0, &line[..n])
-}
-
-fn after_total(stored: &[u8], tunnels: usize) -> usize {
-    let mut line = [0u8; 32];
-    let Ok(n) = summary::total(tunnels, &mut line) else {
-        return stored.len();
-    };
-    after(stored, 0, &line[..n])
-}
-
-// The index after all adapters' lines.
-fn after_pages(
-    stored: &[u8],
-    at: usize,
-    entries: &[u64],
-    adapters: &[u64],
-    routes: &[u64],
-    marks: &[u64],
-    buffer: &mut [u8],
-) -> usize {
-    let mut i = at;
-    for index in 0..adapters.len() {
-        let Ok(Ok(n)) = report::put_page(entries, adapters, routes, marks, index, buffer) else {
-            return stored.len();
-        };
-        i = after(stored, i, &buffer[..n]);
+    match summary::refused(number, &mut line) {
+        Ok(n) => stored.strip_prefix(line.get(..n)?),
+        Err(_) => None,
     }
-    i
 }
 
-// The index after all adapters' lines, by the parts of the tables that are used.
-fn after_tables(
-    stored: &[u8],
-    at: usize,
-    paths: &[u64],
-    table: &[u64],
-    routes: &[u64],
-    marks: &[u64],
-    counts: Counts,
-) -> usize
-    requires { (counts.entries ≤ length paths.now) × (counts.adapters ≤ length table.now) × (counts.devices ≤ length routes.now) × (counts.devices ≤ length marks.now) }
-{
-    let mut buffer = page_room();
-    after_pages(
-        stored,
-        at,
-        &paths[..counts.entries],
-        &table[..counts.adapters],
-        &routes[..counts.devices],
-        &marks[..counts.devices],
-        &mut buffer,
-    )
+fn after_total(stored: &[u8], tunnels: usize) -> Option<&[u8]> {
+    let mut line = [0u8; 32];
+    match summary::total(tunnels, &mut line) {
+        Ok(n) => stored.strip_prefix(line.get(..n)?),
+        Err(_) => None,
+    }
 }
 
-pub fn after_text(stored: &[u8], text: &[u8]) -> usize {
+// What follows all adapters' lines.
+fn after_pages<'a>(stored: &'a [u8], tables: &Tables, buffer: &mut [u8]) -> Option<&'a [u8]> {
+    let mut rest = stored;
+    for index in 0..tables.adapters.len() {
+        match report::put_page(tables, index, buffer) {
+            Ok(Ok(n)) => rest = rest.strip_prefix(buffer.get(..n)?)?,
+            _ => return None,
+        }
+    }
+    Some(rest)
+}
+
+fn after_text<'a>(stored: &'a [u8], text: &[u8]) -> Option<&'a [u8]> {
     let opened = program::open(text);
     let answer = opened.answer;
-    match answer {
-        Err(refusal) => after_refused(stored, refusals::numbers_of(refusal).number),
-        Ok(tried) => {
-            let at = after_total(stored, tried.tunnels);
-            let paths = opened.entries;
-            let table = opened.adapters;
-            let routes = opened.routes;
-            let marks = opened.marks;
-            after_tables(stored, at, &paths, &table, &routes, &marks, tried.counts)
+    match (answer, opened.loaded.tables()) {
+        (Ok(tunnels), Ok(tables)) => {
+            // As much as the program lends for a page.
+            let mut buffer = cases::room::<786432>();
+            after_pages(after_total(stored, tunnels)?, &tables, &mut buffer)
         }
+        (Ok(_), Err(refusal)) => after_refused(stored, refusal),
+        (Err(refusal), _) => after_refused(stored, refusal),
+    }
+}
+
+// Whether that, and no more, is printed of the text.
+pub fn is_printed(stored: &[u8], text: &[u8]) -> bool {
+    match after_text(stored, text) {
+        Some(rest) => rest.is_empty(),
+        None => false,
     }
 }

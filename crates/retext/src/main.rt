@@ -3,110 +3,39 @@
 #![tactic(auto)]
 
 mod answer;
-mod case;
 
-ghost use Rattle.std.specs.Prelude.{◌+◌, ◌<◌, ◌≤◌, ◌≡◌, length};
-
+use cases::Compare;
+use scan::Span;
 use std::rt::Files;
 use std::{fs, io};
 
-// `first` is the line of the first case that differs, from 1 on; 0 where all agree.
-#[derive(Clone, Copy)]
-struct Totals {
-    cases: usize,
-    differ: usize,
-    first: usize,
-}
+// A case is a text as hex pairs, a blank, and what is printed as hex pairs.
+#[derive(Drop)]
+struct Texts;
 
-// Room for a file. The contract says the length alone, which lending it as a slice needs.
-fn file_room() -> [u8; 1000000]
-    ensures { 1000000 ≡ length result }
-{
-    [0; 1000000]
-}
-
-// As much as the program reads.
-fn text_room() -> [u8; 65537]
-    ensures { 65537 ≡ length result }
-{
-    [0; 65537]
-}
-
-// Whether the case that the line holds agrees; a malformed one doesn't.
-fn agrees(line: &[u8]) -> bool {
-    let mut text = text_room();
-    let n = case::decode(line, &mut text);
-    let start = case::answer_start(line, n);
-    let stored = &line[start..];
-    case::ends(stored, answer::after_text(stored, &text[..n]))
-}
-
-// The totals with one case more.
-fn counted(t: Totals, agreed: bool) -> Totals
-    requires { (t.differ ≤ t.cases) × (t.cases < 1000000) }
-    ensures { (result.differ ≤ result.cases) × (result.cases ≡ t.cases + 1) }
-{
-    let cases = t.cases + 1;
-    if agreed {
-        return Totals {
-            cases,
-            differ: t.differ,
-            first: t.first,
-        };
-    }
-    if 0 < t.differ {
-        return Totals {
-            cases,
-            differ: t.differ + 1,
-            first: t.first,
-        };
-    }
-    Totals {
-        cases,
-        differ: 1,
-        first: cases,
-    }
-}
-
-fn count_cases(text: &[u8]) -> Totals
-    requires { length text.now ≤ 1000000 }
-    ensures { result.differ ≤ result.cases }
-{
-    let mut t = Totals {
-        cases: 0,
-        differ: 0,
-        first: 0,
+fn text_agrees(line: &[u8], text: Span, printed: Span) -> bool {
+    // As much as the program reads.
+    let mut bytes = cases::room::<65537>();
+    let Some(n) = cases::bytes(scan::part(line, text), &mut bytes) else {
+        return false;
     };
-    let mut start = 0;
-    while start < text.len() {
-        let end = scan::line_end(text, start);
-        t = counted(t, agrees(&text[start..end]));
-        start = end + 1;
+    let mut stored = cases::room::<131072>();
+    match cases::bytes(scan::part(line, printed), &mut stored) {
+        Some(m) => answer::is_printed(&stored[..m], &bytes[..n]),
+        None => false,
     }
-    t
 }
 
-fn write_count(rt: &impl Print, words: &str, n: usize) -> io::Result<()> {
-    print!(rt; "{words}{n}")
+impl Compare for Texts {
+    fn agrees(&mut self, line: &[u8]) -> bool {
+        let text = scan::token(line, 0);
+        let printed = scan::token(line, text.end);
+        printed.end == line.len() && text_agrees(line, text, printed)
+    }
 }
 
-// Replays the file of that name. One that is missing or too long says so instead of totals.
 fn replay(rt: &(impl Files + Print), name: &str) -> io::Result<()> {
-    rt.print(name)?;
-    let Ok(mut file) = fs::open(rt, name) else {
-        return rt.print(" missing\n");
-    };
-    let mut text = file_room();
-    let n = input::read_full(&mut file, &mut text)?;
-    if n == 1000000 {
-        return rt.print(" too long\n");
-    }
-    let t = count_cases(&text[..n]);
-    write_count(rt, " ", t.cases)?;
-    write_count(rt, " agree ", t.cases - t.differ)?;
-    write_count(rt, " differ ", t.differ)?;
-    write_count(rt, " at ", t.first)?;
-    rt.print("\n")
+    cases::replay(name, fs::open(rt, name), &mut Texts, &mut io::writer(rt))
 }
 
 fn main(rt: HostRuntime) -> io::Result<()> {

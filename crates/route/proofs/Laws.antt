@@ -1,9 +1,12 @@
 -- Laws on depths. Assumes nothing.
 use Rattle.std.specs.Prelude.{None, Some}
 use Prim.Native.Nat.{ℕ, zero, suc, ◌+◌, ◌-◌, ◌*◌, ◌/◌, ◌%◌, ◌^◌, ◌<◌, ◌≤◌}
+use Rattle.std.specs.Int.{div_ceil}
+use Rattle.std.proofs.lemmas.Bool.{cases_lt}
 use native.Mathlib.Omega.{arith}
 use native.Mathlib.Nat.{div-lt_iff_lt-mul, mul-le-mul_right}
 use mathlib.Core.Path.{◌≡◌, refl, ◌∙◌, ap, sym, subst}
+use mathlib.Core.Logic.{⊎_elim}
 use mathlib.Core.Bool.{Bool, true, false, cond, ◌&&◌}
 use lib.Dec.{eqb}
 use lib.Pow.{pow-add, pow_pos, pow_mono}
@@ -20,6 +23,31 @@ module _ (k r : ℕ) where
   pub bytes_more : 1 ≤ r → used_bytes (suc k) r ≡ suc (used_bytes k (r / 256))
   unfolding used_bytes
   bytes_more h = simp (ne_eqb r 0 (λ e. omega arith))
+
+-- a number r of m binary digits, and what is left of it without its lowest byte
+module _ (r m : ℕ) (a : r < 2 ^ m) (b : 2 ^ m ≤ 2 * r + 1) where
+  bits_left : (r / 256 < 2 ^ (m - 8)) × (2 ^ (m - 8) ≤ 2 * (r / 256) + 1)
+  bits_left = ⊎_elim
+      (λ z. let e : m - 8 ≡ 0 = omega arith in let n = pow_mono {i = m} {j = 8} (omega arith) in rw e (omega (arith, n), omega arith))
+      (λ z. let e : 2 ^ m ≡ 2 ^ (m - 8) * 256 = ap (λ n. 2 ^ n) (let n : m ≡ (m - 8) + 8 = omega arith in n) ∙ pow-add 2 (m - 8) 8 in (omega (arith, e), omega (arith, e)))
+      (cases_lt m 8)
+
+  no_bits : r < 1 → m ≡ 0
+  no_bits h = ⊎_elim (λ z. omega arith) (λ z. absurd (omega (arith, pow_mono {i = 1} {j = m} z))) (cases_lt m 1)
+
+  some_bits : 1 ≤ r → 1 ≤ m
+  some_bits h = ⊎_elim (λ z. let e : m ≡ 0 = omega arith in let n : r < 2 ^ 0 = subst (λ n. r < 2 ^ n) e a in absurd (omega (arith, n))) (λ z. z) (cases_lt m 1)
+
+-- it has the bytes that hold its digits
+pub bytes_of_bits : (k r m : ℕ) → m ≤ 8 * k → r < 2 ^ m → 2 ^ m ≤ 2 * r + 1 → used_bytes k r ≡ div_ceil m 8
+unfolding used_bytes
+bytes_of_bits zero r m l a b = omega arith
+bytes_of_bits (suc k) r m l a b =
+    let n = bits_left r m a b in
+    ⊎_elim
+    (λ h. bytes_none k r h ∙ omega (arith, no_bits r m a b h))
+    (λ h. bytes_more k r h ∙ ap suc (bytes_of_bits k (r / 256) (m - 8) (omega arith) n.0 n.1) ∙ omega (arith, some_bits r m a b h))
+    (cases_lt r 1)
 
 pub bytes_le : (k r : ℕ) → used_bytes k r ≤ k
 unfolding used_bytes

@@ -9,16 +9,7 @@ use usb4::ROUTE_SHIFT;
 pub fn depth(route: u64) -> u32
     ensures { result ≡ depth_of route }
 {
-    let mut rest = route;
-    let mut d: u32 = 0;
-    while d < 8 {
-        if rest < 1 {
-            return d;
-        }
-        rest = rest / 256;
-        d += 1;
-    }
-    8
+    (64 - route.leading_zeros()).div_ceil(8)
 }
 
 // What 1 in the byte of a depth counts.

@@ -4,18 +4,20 @@ use native.Mathlib.Omega.{arith}
 use native.Mathlib.Nat.{add-zero, eq-or-lt_of_le}
 use native.Mathlib.Numerals.{add-one}
 use mathlib.Core.Path.{◌≡◌, refl, ◌∙◌, ap, sym}
-use mathlib.Core.Bool.{Bool, true, false, cond, not, ◌&&◌}
-use mathlib.Core.Logic.{⊎_elim, ◌⊎◌, inl, inr}
+use mathlib.Core.Bool.{Bool, true, false, cond, not}
+use mathlib.Core.Logic.{⊎_elim}
 use mathlib.Core.List.{List, [], ◌∷◌}
 use lib.ListN.{length, get_or, take, drop, drop_of_length-le, length-drop}
 use lib.Seq.{drop-cons, get_or-drop, take_all, drop-drop, length-take-le, take-nil}
-use lib.Dec.{eqb, leb}
+use lib.Dec.{eqb}
 use native.Mathlib.Decide.{dec_lt}
-use borrow.Author.Tests.{ne_eqb, not-true, le-leb, lt-leb}
-use Rattle.scan.specs.Scan.{is_space, is_line_feed, is_not, before, place_from, TokenAt, part, on_first, pieces, filled, tokens, ended, lines}
-use Rattle.scan.specs.declared.Span.{Span}
-use Rattle.std.proofs.Common.{Option, None, Some, Bor, slice_range, MatchOption}
-use Rattle.std.specs.Option.{unwrap_or}
+use borrow.Author.Tests.{ne_eqb, not-true, le-ltb}
+use Rattle.scan.specs.Scan.{is_space, is_line_feed, is_high, is_not, before, place_from, TokenFrom, TokenAt, on_first, pieces, filled, tokens, ended, lines}
+use Rattle.scan.specs.declared.Part.{Part}
+use Rattle.std.specs.Prelude.{max}
+use Rattle.std.specs.List.{fold}
+use Rattle.std.proofs.Math.Nat.{min-eq_left, le-max_left, le-max_right}
+use Rattle.std.proofs.lemmas.Bool.{eqb-true, eqb-false}
 
 module _ (p : ℕ → Bool) (s : List ℕ) (i : ℕ) where
   -- the byte at i is the first
@@ -32,25 +34,19 @@ module _ (p : ℕ → Bool) (s : List ℕ) (i : ℕ) where
   unfolding place_from before
   place_end h = rw (drop_of_length-le s h) (omega arith)
 
--- a span in the text, and one that isn't
-module _ (s : List ℕ) (t : Span) where
-  pub part_inside : t.start ≤ t.end → t.end ≤ length s → part s t ≡ take (t.end - t.start) (drop t.start s)
-  unfolding part
-  part_inside h k = simp (le-leb _ _ h, le-leb _ _ k)
+-- no byte is above the largest
+most : (s : List ℕ) (a : ℕ) → a ≤ fold max a s
+most [] a = omega arith
+most (b ∷ s) a = omega (arith, most s (max a b), le-max_left a b)
 
-  pub part_outside : (t.end < t.start) ⊎ (length s < t.end) → part s t ≡ []
-  unfolding part
-  part_outside (inl h) = simp (lt-leb _ _ h)
-  part_outside (inr h) = go (leb t.start t.end)
-    where
-      go : (b : Bool) → cond (b && leb t.end (length s)) (take (t.end - t.start) (drop t.start s)) [] ≡ []
-      go true = simp (lt-leb t.end (length s) h)
-      go false = refl
+low : (s : List ℕ) (a : ℕ) → fold max a s < 128 → before is_high s ≡ length s
+unfolding before is_high
+low [] a h = refl
+low (b ∷ s) a h = simp (le-ltb 127 b (omega (arith, h, most s (max a b), le-max_right a b)), low s (max a b) h)
 
-  -- what `get` gives, or an empty part
-  pub part_got : (q : Option (Bor (List ℕ))) (e : Bor (List ℕ)) → e.now ≡ [] → MatchOption q ((t.end < t.start) ⊎ (length s < t.end)) (λ r. (t.start ≤ t.end) × (t.end ≤ length s) × (r.now ≡ slice_range s t.start t.end) × (length r.now + t.start ≡ t.end)) → (unwrap_or q e).now ≡ part s t
-  part_got None e n h = n ∙ sym (part_outside h)
-  part_got (Some r) e n h = h.2 ∙ sym (part_inside h.0 h.1)
+pub none_high : (s : List ℕ) → fold max 0 s < 128 → place_from is_high s 0 ≡ length s
+unfolding place_from
+none_high s h = omega (arith, low s 0 h)
 
 pub space_above : (b : ℕ) → 32 < b → false ≡ is_space b
 unfolding is_space
@@ -260,38 +256,46 @@ module _ (s : List ℕ) (at st en : ℕ) (starts : st ≡ place_from (is_not is_
       go (no h) = let a = place_above is_space s st in
           rw (token_missing (omega arith), drop_of_length-le s {i = en} (omega (arith, ends))) tokens_none
 
--- token k of a text stands from st up to en; it is empty where there are not so many
-pub record Nth (s : List ℕ) (k st en : ℕ) : Type 0 where
-  pub ordered : st ≤ en
-  pub within : en ≤ length s
-  pub text : take (en - st) (drop st s) ≡ get_or (tokens s) k []
-  pub next : tokens (drop en s) ≡ drop (suc k) (tokens s)
-  pub there : st < length s → k < length (tokens s)
-  pub missing : length s ≤ st → length (tokens s) ≤ k
+-- t is token k of a text; it is empty where there are not so many
+pub record Nth (s : List ℕ) (k : ℕ) (t : Part) : Type 0 where
+  pub within : t.end ≤ length s
+  pub text : t.text.now ≡ get_or (tokens s) k []
+  pub next : tokens (drop t.end s) ≡ drop (suc k) (tokens s)
+  pub there : eqb (length t.text.now) 0 ≡ false → k < length (tokens s)
+  pub missing : eqb (length t.text.now) 0 ≡ true → length (tokens s) ≤ k
 
--- the part where token k stands
-pub part_nth : {s : List ℕ} {k : ℕ} (t : Span) → Nth s k t.start t.end → part s t ≡ get_or (tokens s) k []
-part_nth t n = part_inside _ t n.ordered n.within ∙ n.text
-
-module _ (s : List ℕ) (k at st en : ℕ) (starts : st ≡ place_from (is_not is_space) s at) (ends : en ≡ place_from is_space s st) (inside : at ≤ length s) (here : tokens (drop at s) ≡ drop k (tokens s)) where
+module _ (s : List ℕ) (k at st : ℕ) (t : Part) (starts : st ≡ place_from (is_not is_space) s at) (is : TokenFrom s st t) (inside : at ≤ length s) (here : tokens (drop at s) ≡ drop k (tokens s)) where
   start_in : st ≤ length s
   start_in = rw starts (place_within (is_not is_space) s at inside)
 
-  nth : Nth s k st en
+  end_in : t.end ≤ length s
+  end_in = rw is.0 (place_within is_space s st start_in)
+
+  long : length t.text.now ≡ t.end - st
+  long = ap length is.1 ∙ length-take-le (t.end - st) (drop st s) (omega (arith, end_in, length-drop st s))
+
+  nth : Nth s k t
   nth = record {
-    ordered = rw ends (place_above is_space s st);
-    within = rw ends (place_within is_space s st start_in);
-    text = token_text s at st en starts ends ∙ ap (λ l. get_or l 0 []) here ∙ get_or-drop k (tokens s) 0 [] ∙ ap (λ n. get_or (tokens s) n []) (add-zero k);
-    next = token_next s at st en starts ends ∙ ap (λ l. drop 1 l) here ∙ drop-drop 1 k (tokens s) ∙ ap (λ n. drop n (tokens s)) (add-one k);
-    there = λ h. omega (arith, ap length (token_there s at st en starts ends h), ap length here, length-drop k (tokens s));
-    missing = λ h. omega (arith, ap length (token_missing s at st en starts ends h), ap length here, length-drop k (tokens s));
+    within = end_in;
+    text = is.1 ∙ token_text s at st t.end starts is.0 ∙ ap (λ l. get_or l 0 []) here ∙ get_or-drop k (tokens s) 0 [] ∙ ap (λ n. get_or (tokens s) n []) (add-zero k);
+    next = token_next s at st t.end starts is.0 ∙ ap (λ l. drop 1 l) here ∙ drop-drop 1 k (tokens s) ∙ ap (λ n. drop n (tokens s)) (add-one k);
+    there = λ h. some (eqb-false _ _ h) (dec_lt st (length s));
+    missing = λ h. none (eqb-true _ _ h) (dec_lt st (length s));
   }
+    where
+      some : (length t.text.now ≡ 0 → ⊥) → Dec (st < length s) → k < length (tokens s)
+      some h (yes l) = omega (arith, ap length (token_there s at st t.end starts is.0 l), ap length here, length-drop k (tokens s))
+      some h (no l) = absurd (h (omega (arith, long, end_in)))
 
-pub nth_first : (s : List ℕ) (t : Span) → TokenAt s 0 t → Nth s 0 t.start t.end
-nth_first s t h = nth s 0 0 t.start t.end h.0 h.1 (omega arith) refl
+      none : length t.text.now ≡ 0 → Dec (st < length s) → length (tokens s) ≤ k
+      none h (yes l) = absurd (omega (arith, long, h, token_long s at st t.end starts is.0 l))
+      none h (no l) = omega (arith, ap length (token_missing s at st t.end starts is.0 (omega arith)), ap length here, length-drop k (tokens s))
 
-pub nth_next : {s : List ℕ} {k st en : ℕ} → Nth s k st en → (t : Span) → TokenAt s en t → Nth s (suc k) t.start t.end
-nth_next {s} {k} {st} {en} n t h = nth s (suc k) en t.start t.end h.0 h.1 n.within n.next
+pub nth_first : (s : List ℕ) (t : Part) → TokenAt s 0 t → Nth s 0 t
+nth_first s t h = nth s 0 0 _ t (ap (λ n. place_from (is_not is_space) s n) (min-eq_left (omega arith))) h (omega arith) refl
+
+pub nth_next : {s : List ℕ} {k : ℕ} {u : Part} → Nth s k u → (t : Part) → TokenAt s u.end t → Nth s (suc k) t
+nth_next {s} {k} {u} n t h = nth s (suc k) u.end _ t (ap (λ m. place_from (is_not is_space) s m) (min-eq_left n.within)) h n.within n.next
 
 -- each token takes a byte
 token_bytes : (p : ℕ → Bool) (s : List ℕ) → length (filled (pieces p s)) ≤ length s
@@ -310,14 +314,14 @@ unfolding tokens
 tokens_le s = token_bytes is_space s
 
 -- tokens found one after another are tokens 0, 1, 2, ..
-pub record Spans (s : List ℕ) (a b c d : Span) : Type 0 where
-  pub n0 : Nth s 0 a.start a.end
-  pub n1 : Nth s 1 b.start b.end
-  pub n2 : Nth s 2 c.start c.end
-  pub n3 : Nth s 3 d.start d.end
+pub record Firsts (s : List ℕ) (a b c d : Part) : Type 0 where
+  pub n0 : Nth s 0 a
+  pub n1 : Nth s 1 b
+  pub n2 : Nth s 2 c
+  pub n3 : Nth s 3 d
 
-pub spans : (s : List ℕ) (a b c d : Span) → TokenAt s 0 a → TokenAt s a.end b → TokenAt s b.end c → TokenAt s c.end d → Spans s a b c d
-spans s a b c d ha hb hc hd =
+pub firsts : (s : List ℕ) (a b c d : Part) → TokenAt s 0 a → TokenAt s a.end b → TokenAt s b.end c → TokenAt s c.end d → Firsts s a b c d
+firsts s a b c d ha hb hc hd =
     let m0 = nth_first s a ha in
     let m1 = nth_next m0 b hb in
     let m2 = nth_next m1 c hc in

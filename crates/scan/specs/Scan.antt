@@ -1,6 +1,6 @@
 -- Document 01, module 3: lines and their tokens; bytes above 127. Assumes nothing.
-use Rattle.std.specs.Prelude.{ℕ, suc, ◌+◌, ◌-◌, Bool, cond, not, ◌||◌, ◌&&◌, List, [], ◌∷◌, eqb, leb, ltb, length, take, drop, ◌≡◌}
-use Rattle.scan.specs.declared.Span.{Span}
+use Rattle.std.specs.Prelude.{ℕ, suc, ◌+◌, ◌-◌, min, Bool, cond, not, ◌||◌, List, [], ◌∷◌, eqb, ltb, length, take, drop, ◌≡◌}
+use Rattle.scan.specs.declared.Part.{Part}
 
 -- tab, LF, FF, CR, space
 unfoldable pub is_space : ℕ → Bool
@@ -24,13 +24,13 @@ before p (b ∷ s) = cond (p b) 0 (suc (before p s))
 unfoldable pub place_from : (ℕ → Bool) → List ℕ → ℕ → ℕ
 place_from p s i = i + before p (drop i s)
 
--- t is the first token from i on: from the first byte that is no separator up to the next separator; empty at the end where there is none
-abbrev pub TokenAt : List ℕ → ℕ → Span → Type 0
-TokenAt s i t = (t.start ≡ place_from (is_not is_space) s i) × (t.end ≡ place_from is_space s t.start)
+-- t is the part of s from st up to the next separator
+abbrev pub TokenFrom : List ℕ → ℕ → Part → Type 0
+TokenFrom s st t = (t.end ≡ place_from is_space s st) × (t.text.now ≡ take (t.end - st) (drop st s))
 
--- the part of s that t says; empty where t doesn't lie in s
-unfoldable pub part : List ℕ → Span → List ℕ
-part s t = cond (leb t.start t.end && leb t.end (length s)) (take (t.end - t.start) (drop t.start s)) []
+-- t is the first token from i on, or from the end on where i is past it: from the first byte that is no separator up to the next separator; empty at the end where there is none
+abbrev pub TokenAt : List ℕ → ℕ → Part → Type 0
+TokenAt s i t = TokenFrom s (place_from (is_not is_space) s (min i (length s))) t
 
 -- a byte before the first of the pieces
 unfoldable pub on_first : ℕ → List (List ℕ) → List (List ℕ)

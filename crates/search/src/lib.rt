@@ -36,8 +36,7 @@ pub fn find_entry(entries: &[u64], stand: Stand) -> Option<EntryOut>
     if 65535 < place {
         return None;
     }
-    let key =
-        (place as u64) * 16777216 + (stand.adapter as u64) * 65536 + (stand.hop_id as u64);
+    let key = (place as u64) * 16777216 + (stand.adapter as u64) * 65536 + (stand.hop_id as u64);
     let i = boundary::seek(entries, key * 16777216);
     if entries.len() <= i {
         return None;

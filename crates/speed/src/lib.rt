@@ -40,19 +40,17 @@ pub fn link_speed(
 ) -> Result<Speed, FieldError>
     ensures { (s : Site) → field_at s result ≡ link_speed (descriptions_of descriptions.now) s kind state (after survey.now from).registers }
 {
-    let number = usb4::type_number(kind);
-    if number != 2 {
+    if kind != AdapterType::Lane {
         return Ok(Speed::Unknown);
     }
     if !has_speed(state) {
         return Ok(Speed::Unknown);
     }
-    let Some(NamedAt { register, group }) = named::by_name(
+    let Some(NamedAt { register, group }) = named::of_adapter(
         descriptions,
         survey,
         from,
-        1,
-        number,
+        kind,
         b"LANE_ADP_CS_1",
     ) else {
         return Ok(Speed::Unknown);

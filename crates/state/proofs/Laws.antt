@@ -4,6 +4,7 @@ use native.Mathlib.Omega.{arith}
 use native.Mathlib.Numerals.{add-one}
 use mathlib.Core.Path.{◌≡◌, refl, sym, ap, ◌∙◌, subst}
 use mathlib.Core.Bool.{Bool, true, false, cond, ◌&&◌}
+use mathlib.Core.Logic.{◌⊎◌, inl, inr}
 use mathlib.Core.List.{List, ◌∷◌}
 use Rattle.std.specs.Prelude.{Option, None, Some, Err, Ok, Result}
 use lib.Dec.{eqb}
@@ -17,6 +18,7 @@ use Rattle.util.specs.Text.{bytes_of}
 use Rattle.usb4.specs.Codes.{lane_state_of, speed_of}
 use Rattle.usb4.specs.Numbers.{type_number}
 use Rattle.usb4.specs.declared.AdapterType.{AdapterType}
+use Rattle.usb4.specs.declared.AdapterType.TheVariants as type
 use Rattle.usb4.specs.declared.State.{State}
 use Rattle.usb4.specs.declared.State.TheVariants as state
 use Rattle.usb4.specs.declared.Speed.{Speed}
@@ -304,28 +306,51 @@ module _ (ds : List Description) (s : Site) (k : ℕ) (rs : List Register) (cap 
       ports_clear m = sym (ap (λ x. by_port (sited s (field_read x))) (sym m) ∙ by_flag_lem) ∙ ap (λ x. ports ds s k rs cap x (count - (p + 1))) (sym (add-one p))
 
 -- a speed, by kind, state and register
-module _ (ds : List Description) (k : AdapterType) (st : State) (rs : List Register) (s : Site) (number : ℕ) (e : number ≡ type_number k) where
-  abbrev lane_register : ℕ → Option Named
-  lane_register n = by_name ds adapter_space n (bytes_of "LANE_ADP_CS_1") rs
-
+module _ (ds : List Description) (k : AdapterType) (st : State) (rs : List Register) (s : Site) where
   abbrev speed_by_lem : Bool → Bool → Outcome Speed
-  speed_by_lem lane has = cond (lane && has) (speed_in s (lane_register (type_number k))) (value speed.Unknown)
+  speed_by_lem lane has = cond (lane && has) (speed_in s (by_name ds adapter_space (type_number k) (bytes_of "LANE_ADP_CS_1") rs)) (value speed.Unknown)
 
-  pub speed_kind : (number ≡ 2 → ⊥) → field_at s (Ok speed.Unknown) ≡ link_speed ds s k st rs
+  pub speed_kind : eqb (type_number k) 2 ≡ false → field_at s (Ok speed.Unknown) ≡ link_speed ds s k st rs
   unfolding link_speed of_kind
-  speed_kind n = sym (ap (λ b. speed_by_lem b (has_speed st)) (ap (λ x. eqb x 2) (sym e) ∙ ne_eqb number 2 n))
+  speed_kind n = sym (ap (λ b. speed_by_lem b (has_speed st)) n)
 
-  module _ (lane : number ≡ 2) where
+  module _ (lane : eqb (type_number k) 2 ≡ true) where
     by_state : (b : Bool) → has_speed st ≡ b → speed_by_lem true b ≡ link_speed ds s k st rs
     unfolding link_speed of_kind
-    by_state b h = ap (λ x. speed_by_lem true x) (sym h) ∙ sym (ap (λ x. speed_by_lem x (has_speed st)) (ap (λ x. eqb x 2) (sym e) ∙ eq-eqb number 2 lane))
+    by_state b h = ap (λ x. speed_by_lem true x) (sym h) ∙ sym (ap (λ x. speed_by_lem x (has_speed st)) lane)
 
     pub speed_state : has_speed st ≡ false → field_at s (Ok speed.Unknown) ≡ link_speed ds s k st rs
     speed_state h = by_state false h
 
-    pub speed_register : has_speed st ≡ true → speed_in s (lane_register number) ≡ link_speed ds s k st rs
-    speed_register h = ap (λ x. speed_in s (lane_register x)) e ∙ by_state true h
+    pub speed_register : has_speed st ≡ true → speed_in s (by_name ds adapter_space (type_number k) (bytes_of "LANE_ADP_CS_1") rs) ≡ link_speed ds s k st rs
+    speed_register h = by_state true h
 
--- the state of an adapter whose kind is known
-pub state_is : (ds : List Description) (s : Site) (k : AdapterType) (rs : List Register) (known : AdapterType) → k ≡ known → (o : Outcome State) → o ≡ state_of ds s known rs → o ≡ state_of ds s k rs
-state_is ds s k rs known e o h = h ∙ ap (λ x. state_of ds s x rs) (sym e)
+-- the state of an adapter whose kind is known, or is one of two
+module _ (ds : List Description) (s : Site) (k : AdapterType) (rs : List Register) where
+  pub state_is : (known : AdapterType) → k ≡ known → (o : Outcome State) → o ≡ state_of ds s known rs → o ≡ state_of ds s k rs
+  state_is known e o h = h ∙ ap (λ x. state_of ds s x rs) (sym e)
+
+  pub no_state : (k ≡ type.Unknown) ⊎ (k ≡ type.Inactive) → value state.Unknown ≡ state_of ds s k rs
+  unfolding state_of
+  no_state (inl e) = rw e refl
+  no_state (inr e) = rw e refl
+
+  pub display_port_state : (k ≡ type.DisplayPortIn) ⊎ (k ≡ type.DisplayPortOut) → by_flags s (bytes_of "VE") (bytes_of "AE") (by_name ds adapter_space (type_number k) (bytes_of "ADP_DP_CS_0") rs) ≡ state_of ds s k rs
+  unfolding state_of of_kind
+  display_port_state (inl e) = rw e refl
+  display_port_state (inr e) = rw e refl
+
+  pub pcie_state : (k ≡ type.PcieDown) ⊎ (k ≡ type.PcieUp) → by_flag s (bytes_of "PE") (by_name ds adapter_space (type_number k) (bytes_of "ADP_PCIE_CS_0") rs) ≡ state_of ds s k rs
+  unfolding state_of of_kind
+  pcie_state (inl e) = rw e refl
+  pcie_state (inr e) = rw e refl
+
+  pub usb3_state : (k ≡ type.Usb3Down) ⊎ (k ≡ type.Usb3Up) → by_flags s (bytes_of "PE") (bytes_of "V") (by_name ds adapter_space (type_number k) (bytes_of "ADP_USB3_GX_CS_0") rs) ≡ state_of ds s k rs
+  unfolding state_of of_kind
+  usb3_state (inl e) = rw e refl
+  usb3_state (inr e) = rw e refl
+
+  pub gen_t_state : (k ≡ type.Usb3GenTDown) ⊎ (k ≡ type.Usb3GenTUp) → gen_tState ds s (type_number k) rs (by_name ds adapter_space (type_number k) (bytes_of "ADP_USB3_GT_CS_0") rs) ≡ state_of ds s k rs
+  unfolding state_of of_kind
+  gen_t_state (inl e) = rw e refl
+  gen_t_state (inr e) = rw e refl

@@ -17,7 +17,7 @@ ghost use Rattle.state.specs.State.{by_offset, both_set, enabled_if, by_flag, by
 ghost use Rattle.state.specs.Work.{OffsetAt};
 
 use named::NamedAt;
-use naming::Sought;
+use naming::{Sought, Space};
 use refusal::{Fault, FieldError, Site};
 use usb4::{AdapterType, Speed, State};
 
@@ -61,19 +61,18 @@ fn flags_state(
     descriptions: &[u32],
     survey: &[u32],
     from: usize,
-    kind: u32,
+    kind: AdapterType,
     name: &[u8],
     first: &[u8],
     second: &[u8],
     site: Site,
 ) -> Result<State, Fault>
-    ensures { fault_outcome result ≡ by_flags site first.now second.now (by_name (descriptions_of descriptions.now) adapter_space kind name.now (after survey.now from).registers) }
+    ensures { fault_outcome result ≡ by_flags site first.now second.now (by_name (descriptions_of descriptions.now) adapter_space (type_number kind) name.now (after survey.now from).registers) }
 {
-    let Some(NamedAt { register, group }) = named::by_name(
+    let Some(NamedAt { register, group }) = named::of_adapter(
         descriptions,
         survey,
         from,
-        1,
         kind,
         name,
     ) else {
@@ -88,10 +87,10 @@ fn display_port_state(
     descriptions: &[u32],
     survey: &[u32],
     from: usize,
-    kind: u32,
+    kind: AdapterType,
     site: Site,
 ) -> Result<State, Fault>
-    ensures { fault_outcome result ≡ by_flags site (bytes_of "VE") (bytes_of "AE") (by_name (descriptions_of descriptions.now) adapter_space kind (bytes_of "ADP_DP_CS_0") (after survey.now from).registers) }
+    ensures { fault_outcome result ≡ by_flags site (bytes_of "VE") (bytes_of "AE") (by_name (descriptions_of descriptions.now) adapter_space (type_number kind) (bytes_of "ADP_DP_CS_0") (after survey.now from).registers) }
 {
     flags_state(
         descriptions,
@@ -110,16 +109,15 @@ fn pcie_state(
     descriptions: &[u32],
     survey: &[u32],
     from: usize,
-    kind: u32,
+    kind: AdapterType,
     site: Site,
 ) -> Result<State, Fault>
-    ensures { fault_outcome result ≡ by_flag site (bytes_of "PE") (by_name (descriptions_of descriptions.now) adapter_space kind (bytes_of "ADP_PCIE_CS_0") (after survey.now from).registers) }
+    ensures { fault_outcome result ≡ by_flag site (bytes_of "PE") (by_name (descriptions_of descriptions.now) adapter_space (type_number kind) (bytes_of "ADP_PCIE_CS_0") (after survey.now from).registers) }
 {
-    let Some(NamedAt { register, group }) = named::by_name(
+    let Some(NamedAt { register, group }) = named::of_adapter(
         descriptions,
         survey,
         from,
-        1,
         kind,
         b"ADP_PCIE_CS_0",
     ) else {
@@ -134,10 +132,10 @@ fn usb3_state(
     descriptions: &[u32],
     survey: &[u32],
     from: usize,
-    kind: u32,
+    kind: AdapterType,
     site: Site,
 ) -> Result<State, Fault>
-    ensures { fault_outcome result ≡ by_flags site (bytes_of "PE") (bytes_of "V") (by_name (descriptions_of descriptions.now) adapter_space kind (bytes_of "ADP_USB3_GX_CS_0") (after survey.now from).registers) }
+    ensures { fault_outcome result ≡ by_flags site (bytes_of "PE") (bytes_of "V") (by_name (descriptions_of descriptions.now) adapter_space (type_number kind) (bytes_of "ADP_USB3_GX_CS_0") (after survey.now from).registers) }
 {
     flags_state(
         descriptions,
@@ -155,12 +153,11 @@ fn usb3_state(
 fn lane_state(descriptions: &[u32], survey: &[u32], from: usize, site: Site) -> Result<State, Fault>
     ensures { fault_outcome result ≡ lane_state site (by_name (descriptions_of descriptions.now) adapter_space (type_number type.Lane) (bytes_of "LANE_ADP_CS_1") (after survey.now from).registers) }
 {
-    let Some(NamedAt { register, group }) = named::by_name(
+    let Some(NamedAt { register, group }) = named::of_adapter(
         descriptions,
         survey,
         from,
-        1,
-        2,
+        AdapterType::Lane,
         b"LANE_ADP_CS_1",
     ) else {
         return untold();
@@ -191,10 +188,10 @@ fn port_set(
     descriptions: &[u32],
     survey: &[u32],
     from: usize,
-    kind: u32,
+    kind: AdapterType,
     offset: u32,
 ) -> Result<bool, FieldError>
-    ensures { (s : Site) → sited s (field_read result) ≡ port_set (descriptions_of descriptions.now) s kind (after survey.now from).registers (by_offset offset (after survey.now from).registers) }
+    ensures { (s : Site) → sited s (field_read result) ≡ port_set (descriptions_of descriptions.now) s (type_number kind) (after survey.now from).registers (by_offset offset (after survey.now from).registers) }
 {
     let i = by_offset(survey, from, offset);
     if survey.len() <= i {
@@ -202,8 +199,8 @@ fn port_set(
     }
     let ids = layout::word_at(survey, i + 1);
     let q = Sought {
-        space: 1,
-        kind,
+        space: Space::Adapter as u32,
+        kind: u32::from(kind),
         offset: ids / 65536 % 65536,
         cap: ids % 65536,
         vs: layout::word_at(survey, i + 2),
@@ -225,16 +222,15 @@ fn port_states(
     descriptions: &[u32],
     survey: &[u32],
     from: usize,
-    kind: u32,
+    kind: AdapterType,
     cap: u32,
     count: u32,
     site: Site,
 ) -> Result<State, Fault>
     requires { (cap < 65536) × (count < 65536) }
-    ensures { fault_outcome result ≡ ports (descriptions_of descriptions.now) site kind (after survey.now from).registers cap 0 count }
+    ensures { fault_outcome result ≡ ports (descriptions_of descriptions.now) site (type_number kind) (after survey.now from).registers cap 0 count }
 {
-    let mut port: u32 = 0;
-    while port < count {
+    for port in 0..count {
         let offset = cap + 3 + 2 * port;
         if 65535 < offset {
             return Err(Fault::GenTOffset(site));
@@ -246,9 +242,7 @@ fn port_states(
             Ok(true) => {
                 return Ok(State::Enabled);
             }
-            Ok(false) => {
-                port += 1;
-            }
+            Ok(false) => {}
         }
     }
     Ok(State::Disabled)
@@ -259,16 +253,15 @@ fn gen_t_state(
     descriptions: &[u32],
     survey: &[u32],
     from: usize,
-    kind: u32,
+    kind: AdapterType,
     site: Site,
 ) -> Result<State, Fault>
-    ensures { fault_outcome result ≡ gen_tState (descriptions_of descriptions.now) site kind (after survey.now from).registers (by_name (descriptions_of descriptions.now) adapter_space kind (bytes_of "ADP_USB3_GT_CS_0") (after survey.now from).registers) }
+    ensures { fault_outcome result ≡ gen_tState (descriptions_of descriptions.now) site (type_number kind) (after survey.now from).registers (by_name (descriptions_of descriptions.now) adapter_space (type_number kind) (bytes_of "ADP_USB3_GT_CS_0") (after survey.now from).registers) }
 {
-    let Some(NamedAt { register, group }) = named::by_name(
+    let Some(NamedAt { register, group }) = named::of_adapter(
         descriptions,
         survey,
         from,
-        1,
         kind,
         b"ADP_USB3_GT_CS_0",
     ) else {
@@ -293,17 +286,20 @@ pub fn parse_state(
     ensures { fault_outcome result ≡ state_of (descriptions_of descriptions.now) site kind (after survey.now from).registers }
 {
     match kind {
-        AdapterType::Unknown => Ok(State::Unknown),
-        AdapterType::Inactive => Ok(State::Unknown),
+        AdapterType::Unknown | AdapterType::Inactive => Ok(State::Unknown),
         AdapterType::Lane => lane_state(descriptions, survey, from, site),
         AdapterType::HostInterface => Ok(State::Enabled),
-        AdapterType::DisplayPortIn => display_port_state(descriptions, survey, from, 4, site),
-        AdapterType::DisplayPortOut => display_port_state(descriptions, survey, from, 5, site),
-        AdapterType::PcieDown => pcie_state(descriptions, survey, from, 6, site),
-        AdapterType::PcieUp => pcie_state(descriptions, survey, from, 7, site),
-        AdapterType::Usb3Down => usb3_state(descriptions, survey, from, 8, site),
-        AdapterType::Usb3Up => usb3_state(descriptions, survey, from, 9, site),
-        AdapterType::Usb3GenTDown => gen_t_state(descriptions, survey, from, 10, site),
-        AdapterType::Usb3GenTUp => gen_t_state(descriptions, survey, from, 11, site),
+        AdapterType::DisplayPortIn | AdapterType::DisplayPortOut => {
+            display_port_state(descriptions, survey, from, kind, site)
+        }
+        AdapterType::PcieDown | AdapterType::PcieUp => {
+            pcie_state(descriptions, survey, from, kind, site)
+        }
+        AdapterType::Usb3Down | AdapterType::Usb3Up => {
+            usb3_state(descriptions, survey, from, kind, site)
+        }
+        AdapterType::Usb3GenTDown | AdapterType::Usb3GenTUp => {
+            gen_t_state(descriptions, survey, from, kind, site)
+        }
     }
 }

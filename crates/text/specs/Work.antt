@@ -1,12 +1,12 @@
 -- For the contracts of private functions only: sections by their places in a text. No promise to a caller rests on these. Assumes nothing.
-use Rattle.std.specs.Prelude.{ℕ, ◌+◌, ◌-◌, ◌%◌, ◌≤◌, ◌<◌, ◌≡◌, cond, List, [], ◌∷◌, ◌++◌, map, eqb, length, take, drop, get_or}
+use Rattle.std.specs.Prelude.{ℕ, ◌+◌, ◌-◌, ◌%◌, ◌≤◌, ◌<◌, ◌≡◌, Bool, cond, List, [], ◌∷◌, ◌++◌, map, length, take, drop, get_or}
 use Rattle.scan.specs.Scan.{lines}
 use Rattle.register.specs.declared.Register.{Register}
 use Rattle.groups.specs.Group.{words}
 use Rattle.dump.specs.Sort.{sort}
 use Rattle.room.specs.Records.{records_of as dump_records}
 use Rattle.dump.specs.Dump.{offset}
-use Rattle.markers.specs.Markers.{Marker, Marker.router, Marker.xdomain, Marker.usb4, Marker.regs, Marker.adapter, Marker.paths, Marker.no_paths, Marker.bad, marker_of}
+use Rattle.markers.specs.Markers.{Marker, Marker.bad, marker_of}
 use Rattle.grammar.specs.Grammar.{items_of}
 use Rattle.text.specs.Text.{Section, records_of, sections_of, path_group, marker_words}
 
@@ -27,27 +27,15 @@ Stands t i = i < length t → get_or t i 0 ≡ 64
 abbrev pub Low : List ℕ → Type 0
 Low t = (i : ℕ) → i < length t → get_or t i 0 ≤ 127
 
--- what a marker says, as a number: USB4 1, registers read 2, path dump read 3, missing 4; any other 0, and where there is none
-unfoldable pub mark_number : Marker → ℕ
-mark_number (router d r) = 0
-mark_number (xdomain d r) = 0
-mark_number usb4 = 1
-mark_number regs = 2
-mark_number (adapter n) = 0
-mark_number paths = 3
-mark_number no_paths = 4
-mark_number bad = 0
+-- the marker that stands next, or one that says nothing of a head
+unfoldable pub next_marker : List Section → Marker
+next_marker [] = bad
+next_marker (s ∷ ss) = s.head
 
-unfoldable pub next_mark : List Section → ℕ
-next_mark [] = 0
-next_mark (s ∷ ss) = mark_number s.head
-
-unfoldable pub past_mark : ℕ → List Section → List Section
-past_mark k [] = []
-past_mark k (s ∷ ss) = cond (eqb (mark_number s.head) k) ss (s ∷ ss)
-
-unfoldable pub path_by : ℕ → ℕ
-path_by k = cond (eqb k 3) 1 (cond (eqb k 4) 2 0)
+-- the sections after the next, where that is passed
+unfoldable pub past_next : Bool → List Section → List Section
+past_next b [] = []
+past_next b (s ∷ ss) = cond b ss (s ∷ ss)
 
 -- from one place to the next marker, or the end, there are lines that are no markers
 pub record Skipped (t : List ℕ) (from r : ℕ) : Type 0 where
@@ -63,9 +51,9 @@ pub record NextLine (t : List ℕ) (e r : ℕ) : Type 0 where
   pub within : r ≤ length t
   pub same : drop (e + 1) t ≡ drop r t
 
--- the marker after the one at a place, if that has mark k
-pub record PastMark (t : List ℕ) (at k r : ℕ) : Type 0 where
-  pub sections : sections_from t r ≡ past_mark k (sections_from t at)
+-- the marker after the one at a place, where that is passed
+pub record PastMark (t : List ℕ) (at : ℕ) (b : Bool) (r : ℕ) : Type 0 where
+  pub sections : sections_from t r ≡ past_next b (sections_from t at)
   pub stands : Stands t r
 
 -- the words of a path dump

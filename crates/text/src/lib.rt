@@ -1,14 +1,17 @@
 // The program's text, to survey words.
 #![tactic(auto)]
 
-ghost use Rattle.std.specs.Prelude.{◌≡◌, ◌++◌, ◌+◌, ◌*◌, ◌%◌, ◌≤◌, ◌<◌, ℕ, eqb, length, drop};
+ghost use Rattle.std.specs.Prelude.{◌≡◌, ◌++◌, ◌+◌, ◌%◌, ◌≤◌, length, drop};
+ghost use Rattle.usb4.specs.Numbers.{device_kind_number};
+ghost use Rattle.markers.specs.Markers.{marker_by};
 ghost use Rattle.dump.specs.Dump.{dump_words};
-ghost use Rattle.text.specs.Text.{bit, device_head, adapter_head, device_words, survey_words, TextDone};
-ghost use Rattle.text.specs.Work.{sections_from, Stands, Low, next_mark, path_by, Skipped, NextLine, PastMark, path_words, body_words, PutAt, marked};
+ghost use Rattle.text.specs.Text.{is_usb4, is_regs, path_mark, device_head, adapter_head, device_words, survey_words, TextDone};
+ghost use Rattle.text.specs.Work.{sections_from, Stands, Low, next_marker, Skipped, NextLine, PastMark, path_words, body_words, PutAt, marked};
 
 use grammar::MOST_WORDS;
 use markers::Mark;
 use refusal::Refusal;
+use usb4::Kind;
 
 // Words that the small scratch has room for.
 const FEW_WORDS: usize = 1024;
@@ -43,80 +46,67 @@ fn after_line(text: &[u8], end: usize) -> usize
     end
 }
 
-// What the marker line at a place says in the head before it: USB4 1, registers read 2, path dump read 3, missing 4; any other 0, and at the end.
-fn mark_at(text: &[u8], at: usize) -> u32
+// The marker that stands at a place; at the end one that says nothing of a head.
+fn mark_at(text: &[u8], at: usize) -> Mark
     requires { Stands text.now at }
-    ensures { result ≡ next_mark (sections_from text.now at) }
+    ensures { marker_by result ≡ next_marker (sections_from text.now at) }
 {
     if text.len() <= at {
-        return 0;
+        return Mark::Bad;
     }
     let end = scan::line_end(text, at);
-    match markers::marker(&text[at..end]) {
-        Mark::Usb4 => 1,
-        Mark::Regs => 2,
-        Mark::Paths => 3,
-        Mark::NoPaths => 4,
-        Mark::Router {
-            domain: _,
-            route: _,
-        } => 0,
-        Mark::Xdomain {
-            domain: _,
-            route: _,
-        } => 0,
-        Mark::Adapter(_) => 0,
-        Mark::Bad => 0,
-    }
+    markers::marker(&text[at..end])
 }
 
-// The marker after the one at a place, if that has a mark; else the place.
-fn past_mark(text: &[u8], at: usize, mark: u32) -> usize
+// The marker after the one at a place, where that is passed; else the place.
+fn past_mark(text: &[u8], at: usize, passed: bool) -> usize
     requires { Stands text.now at }
-    ensures { PastMark text.now at mark result }
+    ensures { PastMark text.now at passed result }
 {
-    if text.len() <= at {
+    if !passed {
         return at;
     }
-    if mark_at(text, at) != mark {
+    if text.len() <= at {
         return at;
     }
     let end = scan::line_end(text, at);
     next_marker(text, after_line(text, end))
 }
 
-// A weight where a mark is the one that is looked for.
-fn weight_of(mark: u32, sought: u32, weight: u32) -> u32
-    ensures { result ≡ weight * bit (eqb mark sought) }
+// Whether a marker says that its device is USB4.
+fn is_usb4(mark: Mark) -> bool
+    ensures { result ≡ is_usb4 (marker_by mark) }
 {
-    if mark == sought {
-        return weight;
-    }
-    0
+    matches!(mark, Mark::Usb4)
+}
+
+// Whether a marker says that registers were read.
+fn is_regs(mark: Mark) -> bool
+    ensures { result ≡ is_regs (marker_by mark) }
+{
+    matches!(mark, Mark::Regs)
 }
 
 // An adapter's path dump: read, missing, or neither.
-fn path_mark(mark: u32) -> u32
-    ensures { (result ≡ path_by mark) × (result ≤ 2) }
+fn path_mark(mark: Mark) -> u32
+    ensures { (result ≡ path_mark (marker_by mark)) × (result ≤ 2) }
 {
-    if mark == 3 {
-        return 1;
+    match mark {
+        Mark::Paths => 1,
+        Mark::NoPaths => 2,
+        _ => 0,
     }
-    if mark == 4 {
-        return 2;
-    }
-    0
 }
 
 // The head word of a device whose next marker stands at a place.
-fn device_head(text: &[u8], next: usize, kind: u32) -> u32
-    requires { (Stands text.now next) × (kind ≤ 15) }
-    ensures { result ≡ device_head kind (sections_from text.now next) }
+fn device_head(text: &[u8], next: usize, kind: Kind) -> u32
+    requires { Stands text.now next }
+    ensures { result ≡ device_head (device_kind_number kind) (sections_from text.now next) }
 {
-    let usb4 = weight_of(mark_at(text, next), 1, 1);
-    let second = past_mark(text, next, 1);
-    let read = weight_of(mark_at(text, second), 2, 2);
-    805306368 + kind * 16777216 + read + usb4
+    let usb4 = is_usb4(mark_at(text, next));
+    let second = past_mark(text, next, usb4);
+    let read = is_regs(mark_at(text, second));
+    805306368 + u32::from(kind) * 16777216 + 2 * u32::from(read) + u32::from(usb4)
 }
 
 // The head word of an adapter whose next marker stands at a place.
@@ -124,24 +114,24 @@ fn adapter_head(text: &[u8], next: usize, number: u8) -> u32
     requires { Stands text.now next }
     ensures { result ≡ adapter_head number (sections_from text.now next) }
 {
-    let read = weight_of(mark_at(text, next), 2, 256);
-    let second = past_mark(text, next, 2);
+    let read = is_regs(mark_at(text, next));
+    let second = past_mark(text, next, read);
     let paths = path_mark(mark_at(text, second));
-    1073741824 + 512 * paths + read + number as u32
+    1073741824 + 512 * paths + 256 * u32::from(read) + number as u32
 }
 
 // Writes a device's group; the next place.
 fn put_device(
     text: &[u8],
     next: usize,
-    kind: u32,
+    kind: Kind,
     domain: u32,
     route: u64,
     out: &mut [u32],
     k: usize,
 ) -> usize
-    requires { (Stands text.now next) × (kind ≤ 15) × (k + 4 ≤ length out.old) }
-    ensures { PutAt (device_words kind domain route (sections_from text.now next)) k out.old result out.new }
+    requires { (Stands text.now next) × (k + 4 ≤ length out.old) }
+    ensures { PutAt (device_words (device_kind_number kind) domain route (sections_from text.now next)) k out.old result out.new }
 {
     out[k] = device_head(text, next, kind);
     out[k + 1] = domain;
@@ -150,22 +140,12 @@ fn put_device(
     k + 4
 }
 
-// The smaller of two numbers.
-fn least(a: usize, b: usize) -> usize
-    ensures { (result ≤ a) × (result ≤ b) × ((n : ℕ) → n ≤ a → n ≤ b → n ≤ result) }
-{
-    if a < b {
-        return a;
-    }
-    b
-}
-
 // Writes a dump's groups; the next place.
 fn put_dump(body: &[u8], scratch: &mut [u32], out: &mut [u32], k: usize) -> usize
     requires { (Low body.now) × (k + length (dump_words body.now) ≤ length out.old) × (length (dump_words body.now) ≤ length scratch.old) }
     ensures { PutAt (dump_words body.now) k out.old result out.new }
 {
-    let room = least(body.len(), scratch.len());
+    let room = body.len().min(scratch.len());
     let Ok(n) = dump::read(body, &mut scratch[..room], &mut out[k..]) else {
         return k;
     };
@@ -206,8 +186,24 @@ fn put_section(
     ensures { PutAt (body_words line.now body.now (sections_from text.now next)) k out.old result out.new }
 {
     match markers::marker(line) {
-        Mark::Router { domain, route } => put_device(text, next, 1, domain, route, out, k),
-        Mark::Xdomain { domain, route } => put_device(text, next, 2, domain, route, out, k),
+        Mark::Router { domain, route } => put_device(
+            text,
+            next,
+            Kind::Router,
+            domain,
+            route,
+            out,
+            k,
+        ),
+        Mark::Xdomain { domain, route } => put_device(
+            text,
+            next,
+            Kind::Xdomain,
+            domain,
+            route,
+            out,
+            k,
+        ),
         Mark::Regs => put_dump(body, scratch, out, k),
         Mark::Adapter(number) => {
             out[k] = adapter_head(text, next, number);

@@ -130,12 +130,7 @@ pub fn down_and_up(
 }
 
 // AUX TX and AUX RX, where a tunnel's head and its Video path have so many words.
-fn aux(
-    tables: &Tables,
-    place: usize,
-    adapter: u8,
-    words: usize,
-) -> Result<Option<Plan>, WalkError>
+fn aux(tables: &Tables, place: usize, adapter: u8, words: usize) -> Result<Option<Plan>, WalkError>
     requires { words ≤ 131072 }
     ensures { Draws tables.now place (λ x. auxiliary x place adapter words) result }
 {
@@ -156,11 +151,7 @@ fn aux(
 }
 
 // DisplayPort: Video, AUX TX, then AUX RX from where AUX TX leaves.
-pub fn display_port(
-    tables: &Tables,
-    place: usize,
-    adapter: u8,
-) -> Result<Option<Plan>, WalkError>
+pub fn display_port(tables: &Tables, place: usize, adapter: u8) -> Result<Option<Plan>, WalkError>
     ensures { Plans tables.now place (λ x. display_port x place adapter) result }
 {
     let video = starting(place, adapter, DP_VIDEO_HOPID, VIDEO);

@@ -1,12 +1,12 @@
 // Reads the text of a survey from standard input and prints its tunnels, by our descriptions; or only `refused N`.
 #![tactic(auto)]
 
-ghost use Rattle.std.specs.Prelude.{◌≤◌, ◌≡◌, length};
-ghost use Rattle.program.specs.Opened.{UsedBy};
+ghost use Rattle.std.specs.Prelude.{◌≡◌, length};
 
-use load::Counts;
 use program::Opened;
+use refusal::Refusal;
 use std::io;
+use tables::Tables;
 
 // One byte more than a text may have, so that a longer one is seen. The contract says the length alone, which lending it as a slice needs.
 fn text_room() -> [u8; 65537]
@@ -29,7 +29,8 @@ fn small_room() -> [u8; 8192]
     [0; 8192]
 }
 
-fn write_refused(rt: &impl Print, number: u8) -> io::Result<()> {
+fn write_refused(rt: &impl Print, refusal: Refusal) -> io::Result<()> {
+    let number = refusals::numbers_of(refusal).number;
     let mut line = [0u8; 16];
     if let Ok(n) = summary::refused(number, &mut line) {
         rt.write_all(&line[..n])?;
@@ -46,16 +47,9 @@ fn write_total(rt: &impl Print, tunnels: usize) -> io::Result<()> {
 }
 
 // Writes an adapter's lines, by way of a buffer that holds any page.
-fn write_long_page(
-    rt: &impl Print,
-    entries: &[u64],
-    adapters: &[u64],
-    routes: &[u64],
-    marks: &[u64],
-    index: usize,
-) -> io::Result<()> {
+fn write_long_page(rt: &impl Print, tables: &Tables, index: usize) -> io::Result<()> {
     let mut buffer = page_room();
-    if let Ok(Ok(n)) = report::put_page(entries, adapters, routes, marks, index, &mut buffer) {
+    if let Ok(Ok(n)) = report::put_page(tables, index, &mut buffer) {
         rt.write_all(&buffer[..n])?;
     }
     Ok(())
@@ -64,14 +58,11 @@ fn write_long_page(
 // Writes an adapter's lines, and says whether the buffer has room for them; where it hasn't, nothing is written. None is refused here, since each was tried.
 fn write_page(
     rt: &impl Print,
-    entries: &[u64],
-    adapters: &[u64],
-    routes: &[u64],
-    marks: &[u64],
+    tables: &Tables,
     index: usize,
     buffer: &mut [u8],
 ) -> io::Result<bool> {
-    match report::put_page(entries, adapters, routes, marks, index, buffer) {
+    match report::put_page(tables, index, buffer) {
         Ok(Ok(n)) => {
             rt.write_all(&buffer[..n])?;
             Ok(true)
@@ -84,10 +75,7 @@ fn write_page(
 // Writes the lines of the adapters from one to before another, in order. It goes by halves and not by a loop: the compiler puts no large room into the frame of a function that calls itself. Otherwise the largest room would be in the frame of `main`, of which every page is touched in every run.
 fn write_pages(
     rt: &impl Print,
-    entries: &[u64],
-    adapters: &[u64],
-    routes: &[u64],
-    marks: &[u64],
+    tables: &Tables,
     from: usize,
     end: usize,
     buffer: &mut [u8],
@@ -96,72 +84,36 @@ fn write_pages(
         return Ok(());
     }
     let middle = from + (end - from) / 2;
-    write_pages(rt, entries, adapters, routes, marks, from, middle, buffer)?;
-    if !write_page(rt, entries, adapters, routes, marks, middle, buffer)? {
-        write_long_page(rt, entries, adapters, routes, marks, middle)?;
+    write_pages(rt, tables, from, middle, buffer)?;
+    if !write_page(rt, tables, middle, buffer)? {
+        write_long_page(rt, tables, middle)?;
     }
-    write_pages(
-        rt,
-        entries,
-        adapters,
-        routes,
-        marks,
-        middle + 1,
-        end,
-        buffer,
-    )
+    write_pages(rt, tables, middle + 1, end, buffer)
 }
 
-// Writes each adapter's lines, by the parts of the tables that are used.
-fn write_tables(
-    rt: &impl Print,
-    paths: &[u64],
-    table: &[u64],
-    routes: &[u64],
-    marks: &[u64],
-    counts: Counts,
-) -> io::Result<()>
-    requires { (counts.entries ≤ length paths.now) × (counts.adapters ≤ length table.now) × (counts.devices ≤ length routes.now) × (counts.devices ≤ length marks.now) }
-{
+// Writes each adapter's lines.
+fn write_tables(rt: &impl Print, tables: &Tables) -> io::Result<()> {
     let mut buffer = small_room();
-    write_pages(
-        rt,
-        &paths[..counts.entries],
-        &table[..counts.adapters],
-        &routes[..counts.devices],
-        &marks[..counts.devices],
-        0,
-        counts.adapters,
-        &mut buffer,
-    )
+    write_pages(rt, tables, 0, tables.adapters.len(), &mut buffer)
 }
 
-// Writes the lines of a text that was opened, or its refusal. This is a function of its own, so that its copies of the tables and those of loading, which has ended, get the same stack.
-fn write_opened(rt: &impl Print, opened: Opened) -> io::Result<()>
-    requires { UsedBy opened opened.answer }
-{
+// Writes the lines of a text that was opened, or its refusal.
+fn write_opened(rt: &impl Print, opened: &Opened) -> io::Result<()> {
     let answer = opened.answer;
-    let paths = opened.entries;
-    let table = opened.adapters;
-    let routes = opened.routes;
-    let marks = opened.marks;
-    match answer {
-        Err(refusal) => write_refused(rt, refusals::numbers_of(refusal).number),
-        Ok(tried) => {
-            write_total(rt, tried.tunnels)?;
-            let p = &paths;
-            let t = &table;
-            let r = &routes;
-            let m = &marks;
-            write_tables(rt, p, t, r, m, tried.counts)
+    match (answer, opened.loaded.tables()) {
+        (Ok(tunnels), Ok(tables)) => {
+            write_total(rt, tunnels)?;
+            write_tables(rt, &tables)
         }
+        (Ok(_), Err(refusal)) => write_refused(rt, refusal),
+        (Err(refusal), _) => write_refused(rt, refusal),
     }
 }
 
 // Nothing is written before all adapters were tried.
 fn write_text(rt: &impl Print, text: &[u8]) -> io::Result<()> {
     let opened = program::open(text);
-    write_opened(rt, opened)
+    write_opened(rt, &opened)
 }
 
 fn main(rt: HostRuntime) -> io::Result<()> {

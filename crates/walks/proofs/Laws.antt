@@ -3,29 +3,23 @@ use Prim.Native.Nat.{ℕ, ◌<◌}
 use mathlib.Core.Bool.{Bool, true, false, true≢false}
 use mathlib.Core.Path.{◌≡◌, refl, sym, ap, ◌∙◌, subst}
 use mathlib.Core.List.{List, []}
-use Rattle.std.specs.Prelude.{Option, None, Some, Err, Result}
-use native.Mathlib.Omega.{arith}
-use lib.ListN.{length, take}
-use lib.Seq.{length-take-le}
+use Rattle.std.specs.Prelude.{Option, None, Some, Ok, Err, Result}
+use lib.ListN.{length}
 use Rattle.refusal.specs.Outcome.{Outcome, refused, value, bind}
 use Rattle.adapter.specs.Adapter.{AdapterRow}
 use Rattle.tables.specs.Rows.{EntryRow, DeviceRow, Rows, adapter_in, device_in}
 use Rattle.tables.specs.Packed.{adapters_in, devices_in}
 use Rattle.load.specs.Loading.{loaded}
-use Rattle.load.specs.Answers.{loaded_rows, Usable, present, asked_device, asked_adapter}
+use Rattle.load.specs.Answers.{tables_rows, present, asked_device, asked_adapter}
 use Rattle.refusal.specs.Refusal.{refused_by}
 use Rattle.refusal.specs.declared.Refusal.{Refusal}
 use Rattle.refusal.specs.declared.Refusal.TheVariants as refusal
-use Rattle.load.specs.declared.Loaded.{Loaded}
-use Rattle.load.proofs.Result.{tables_in, load_tables}
 use Rattle.refusal.proofs.Laws.{refused_bind}
-use Rattle.devices.proofs.Laws.{Held, asked}
 use Rattle.walk.specs.Rule.{walk_from, in_room, WalkRule}
 use Rattle.path.specs.Words.{words_needed, with_path, output_by}
 use Rattle.path.specs.Put.{Put}
 use Rattle.walks.specs.Calls.{single, path_answer, walk_answer, WalkDone}
 use Rattle.refusal.specs.Refusal.{outcome}
-use Rattle.load.specs.Answers.{counted}
 use Rattle.tables.specs.declared.Stand.{Stand}
 use Rattle.tables.specs.declared.Tables.{Tables}
 use Rattle.tables.specs.Tables.{Sized, Tabled, rows_of}
@@ -103,42 +97,24 @@ module _ (t v : List ℕ) (s : Stand) (out : List ℕ) where
 
 -- ---- the tables that loading answers
 
-module _ (l : Loaded) (t v : List ℕ) (e a d : ℕ) (same : loaded_rows l ≡ loaded t v) (g : l.answer ≡ counted e a d) where
-  pub rows_loaded : loaded t v ≡ value (rows_of (take e l.entries) (take a l.adapters) (take d l.routes) (take d l.marks))
-  unfolding rows_of bind
-  rows_loaded = go (loaded t v) (load_tables l t v same value e a d g)
-    where
-      go : (o : Outcome Rows) → value (tables_in l e a d) ≡ bind o value → o ≡ value (tables_in l e a d)
-      go (refused n vs) w = absurd (refused_value (sym w))
-      go (value x) w = sym w
+module _ (q : Result Tables Refusal) (o : Outcome Rows) (is : tables_rows q ≡ o) (t : Tables) (e : q ≡ Ok t) where
+  pub rows_loaded : o ≡ value (rows_of t)
+  unfolding tables_rows
+  rows_loaded = sym is ∙ ap tables_rows e
 
   -- 14
-  pub no_device : (p n : ℕ) → None ≡ device_in (devices_in (take d l.routes) (take d l.marks)) p → refused_by refusal.Missing ≡ bind (loaded t v) (λ x. asked_adapter x p n)
-  unfolding asked_adapter present bind
-  no_device p n f = asked l t v e a d p (λ x z. present (adapter_in x.adapters p n)) None same g f
+  pub no_device : (p n : ℕ) → None ≡ device_in (devices_in t.routes.now t.marks.now) p → refused_by refusal.Missing ≡ bind o (λ x. asked_adapter x p n)
+  unfolding asked_adapter asked_device present bind rows_of
+  no_device p n f = ap (λ d. bind (present d) (λ z. present (adapter_in (rows_of t).adapters p n))) f ∙ sym (ap (λ w. bind w (λ x. asked_adapter x p n)) rows_loaded)
 
-  pub no_adapter : (p n : ℕ) (z : DeviceRow) → Some z ≡ device_in (devices_in (take d l.routes) (take d l.marks)) p → None ≡ adapter_in (adapters_in (take a l.adapters)) p n
-      → refused_by refusal.Missing ≡ bind (loaded t v) (λ x. asked_adapter x p n)
-  unfolding asked_adapter present bind
-  no_adapter p n z f h = ap present h ∙ asked l t v e a d p (λ x w. present (adapter_in x.adapters p n)) (Some z) same g f
+  pub no_adapter : (p n : ℕ) (z : DeviceRow) → Some z ≡ device_in (devices_in t.routes.now t.marks.now) p → None ≡ adapter_in (adapters_in t.adapters.now) p n → refused_by refusal.Missing ≡ bind o (λ x. asked_adapter x p n)
+  unfolding asked_adapter asked_device present bind rows_of
+  no_adapter p n z f h = ap present h ∙ ap (λ d. bind (present d) (λ w. present (adapter_in (rows_of t).adapters p n))) f ∙ sym (ap (λ w. bind w (λ x. asked_adapter x p n)) rows_loaded)
 
-pub asked_device_lem : (tables : Tables) (p : ℕ) (z : DeviceRow) → Some z ≡ device_in (devices_in tables.routes.now tables.marks.now) p → asked_device (rows_of tables) p ≡ value z
+pub asked_device_lem : (t : Tables) (p : ℕ) (z : DeviceRow) → Some z ≡ device_in (devices_in t.routes.now t.marks.now) p → asked_device (rows_of t) p ≡ value z
 unfolding asked_device present rows_of
-asked_device_lem tables p z f = sym (ap present f)
+asked_device_lem t p z f = sym (ap present f)
 
-pub asked_adapter_lem : (tables : Tables) (p n : ℕ) (z : DeviceRow) (y : AdapterRow) → Some z ≡ device_in (devices_in tables.routes.now tables.marks.now) p → Some y ≡ adapter_in (adapters_in tables.adapters.now) p n → asked_adapter (rows_of tables) p n ≡ value y
+pub asked_adapter_lem : (t : Tables) (p n : ℕ) (z : DeviceRow) (y : AdapterRow) → Some z ≡ device_in (devices_in t.routes.now t.marks.now) p → Some y ≡ adapter_in (adapters_in t.adapters.now) p n → asked_adapter (rows_of t) p n ≡ value y
 unfolding asked_adapter present rows_of bind
-asked_adapter_lem tables p n z y f h = ap (λ (o : Outcome DeviceRow). bind o (λ w. present (adapter_in (adapters_in tables.adapters.now) p n))) (asked_device_lem tables p z f) ∙ sym (ap present h)
-
-pub sized : (l : Loaded) (e a d : ℕ) → Usable l e a d → Held l e a d → Sized (take e l.entries) (take d l.routes)
-sized l e a d u h = record {
-  entries = omega (arith, length-take-le e l.entries h.entries, u.entries);
-  devices = omega (arith, length-take-le d l.routes h.routes, u.devices);
-}
-
-pub tabled : (l : Loaded) (e a d : ℕ) → Usable l e a d → Held l e a d → Tabled (take e l.entries) (take a l.adapters) (take d l.routes)
-tabled l e a d u h = record {
-  entry_order = u.entry_order;
-  adapter_order = u.adapter_order;
-  devices = omega (arith, (sized l e a d u h).devices);
-}
+asked_adapter_lem t p n z y f h = ap (λ (o : Outcome DeviceRow). bind o (λ w. present (adapter_in (adapters_in t.adapters.now) p n))) (asked_device_lem t p z f) ∙ sym (ap present h)

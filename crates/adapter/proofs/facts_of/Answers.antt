@@ -1,6 +1,8 @@
 use Rattle.adapter.proofs.Laws as laws
-use Rattle.adapter.specs.Adapter.{adapter_site}
+use Rattle.adapter.specs.Adapter.{adapter_site, max_hop}
+use Rattle.state.specs.State.{of_kind}
 use Rattle.adapter.proofs.facts_of.Goals as goal
 
 pub returns : goal.returns
-returns c = λ p. let s = adapter_site p c.args.number in laws.facts_row_lem _ _ _ _ _ _ _ _ _ _ _ c.is_lane0-lane0.ensures c.is_lane1-lane1.ensures (c.link_speed-speed.ensures s) (laws.most_of _ s _ _ _ _ c.type_number.ensures (c.max_hop-max_hop.ensures s))
+unfolding max_hop of_kind
+returns c = λ p. let s = adapter_site p c.args.number in laws.facts_row_lem _ _ _ _ _ _ _ _ _ _ _ c.is_lane0-lane0.ensures c.is_lane1-lane1.ensures (c.link_speed-speed.ensures s) (c.max_hop-max_hop.ensures s)

@@ -1,21 +1,16 @@
-use borrow.Author.Tests.{not-true, not-false}
-use mathlib.Core.Path.{refl, sym, ◌∙◌, ap}
-use native.Mathlib.Omega.{arith}
+use mathlib.Core.Path.{◌∙◌, refl}
 use native.Mathlib.Nat.{sub-zero}
-use Rattle.description.specs.Rules.{good_name}
-use Rattle.description.proofs.Laws as laws
-use mathlib.Core.Bool.{not}
+use Prim.Native.Nat.{◌*◌}
+use Rattle.std.proofs.Common.{rules}
+use Rattle.std.proofs.lemmas.Iterator.{YieldsList-from_range}
+use Rattle.std.proofs.lemmas.Iterator.Search.{all_from_yields_List}
+use Rattle.layout.specs.Layout.{byte_at, name_words}
+use Rattle.description.specs.Rules.{good_byte, good_name}
+use Rattle.description.proofs.Laws.{bytes_all}
 use Rattle.description.proofs.good_name.Goals as goal
 
-pub loop-j-init : goal.loop-j-init
-unfolding good_name
-loop-j-init c = (omega arith, refl, rw sub-zero)
-
-pub returns-then-not-good_byte : goal.returns-then-not-good_byte
-returns-then-not-good_byte c = let h = c.loop-j in sym (h.invariant.2 ∙ laws.bytes_bad _ _ _ _ _ (omega arith) (laws.byte_seen _ _ _ _ 0 _ _ _ c.byte_at.ensures c.good_byte.ensures (not-true _ (ap (λ b. not b) c.if-not-good_byte.true))))
-
-pub loop-j-preserved : goal.loop-j-preserved
-loop-j-preserved c = let h = c.loop-j in (omega arith, refl, h.invariant.2 ∙ laws.bytes_more _ _ _ _ _ (omega arith) (laws.byte_seen _ _ _ _ 0 _ _ _ c.byte_at.ensures c.good_byte.ensures (not-false _ (ap (λ b. not b) c.if-not-good_byte.false))))
-
 pub returns : goal.returns
-returns c = sym (c.loop-j.invariant.2 ∙ laws.bytes_end _ _ _ _ _ c.loop-j-test.false)
+unfolding good_name
+returns c =
+    let t = c.args.t.now in let p = c.args.p in let n = c.args.n in let m = 4 * name_words n in
+    all_from_yields_List (λ j. good_byte n j (byte_at t p j)) _ _ _ c.all.ensures.ran (YieldsList-from_range 0 m m refl (sub-zero m)) (λ x b q k. search rules) ∙ bytes_all t p n 0 m

@@ -6,7 +6,7 @@ use mathlib.Core.Path.{ap}
 use Rattle.discovery.proofs.at_rest.Goals as goal
 
 pub returns-then-not-is_quiet : goal.returns-then-not-is_quiet
-returns-then-not-is_quiet c = λ tables f. idle_start _ tables _ _ 2048
+returns-then-not-is_quiet c = λ f. idle_start _ _ _ 2048
 
 pub returns : goal.returns
-returns c = λ tables f. all_rest _ tables _ _ _ (c.is_quiet.ensures tables f (not-false c.is_quiet.result (ap (λ b. not b) c.if-not-is_quiet.false))) c.unmark_all.ensures
+returns c = λ f. all_rest _ _ _ _ (c.is_quiet.ensures f (not-false c.is_quiet.result (ap (λ b. not b) c.if-not-is_quiet.false))) c.unmark_all.ensures

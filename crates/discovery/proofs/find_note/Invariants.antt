@@ -5,6 +5,3 @@ use Rattle.discovery.proofs.find_note.Given as goal
 
 abbrev pub invariant-loop-i : goal.invariant-loop-i
 invariant-loop-i l = Unfound l.notes l.ring l.i
-
-abbrev pub decreases-loop-i : goal.decreases-loop-i
-decreases-loop-i l = length l.notes - l.i

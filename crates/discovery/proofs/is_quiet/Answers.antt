@@ -6,18 +6,18 @@ use Rattle.discovery.proofs.Quiet.{quiet}
 use Rattle.discovery.proofs.is_quiet.Goals as goal
 
 pub returns-then-leaves_by : goal.returns-then-leaves_by
-returns-then-leaves_by c = λ tables f e. absurd (false≢true e)
+returns-then-leaves_by c = λ f e. absurd (false≢true e)
 
 pub returns-in-Ok-Nothing : goal.returns-in-Ok-Nothing
 unfolding received_outcome
-returns-in-Ok-Nothing c = λ tables f e. quiet _ tables 65535 _ none (sym c.leaves_by.ensures ∙ c.if-leaves_by.false) f (ap (received_outcome 65535) (c.in-Ok-Nothing.is ∙ ap Ok (rw c.in-Ok-Nothing.is at c.in-Ok-Nothing.field-0-is)))
+returns-in-Ok-Nothing c = λ f e. quiet _ 65535 _ none (sym c.leaves_by.ensures ∙ c.if-leaves_by.false) f (ap (received_outcome 65535) (c.in-Ok-Nothing.is ∙ ap Ok (rw c.in-Ok-Nothing.is at c.in-Ok-Nothing.field-0-is)))
 
 pub returns-in-Ok-Lost : goal.returns-in-Ok-Lost
 unfolding received_outcome
-returns-in-Ok-Lost c = λ tables f e. quiet _ tables 65535 _ dropped (sym c.leaves_by.ensures ∙ c.if-leaves_by.false) f (ap (received_outcome 65535) (c.in-Ok-Lost.is ∙ ap Ok (rw c.in-Ok-Lost.is at c.in-Ok-Lost.field-0-is)))
+returns-in-Ok-Lost c = λ f e. quiet _ 65535 _ dropped (sym c.leaves_by.ensures ∙ c.if-leaves_by.false) f (ap (received_outcome 65535) (c.in-Ok-Lost.is ∙ ap Ok (rw c.in-Ok-Lost.is at c.in-Ok-Lost.field-0-is)))
 
 pub returns-in-Err : goal.returns-in-Err
-returns-in-Err c = λ tables f e. absurd (false≢true e)
+returns-in-Err c = λ f e. absurd (false≢true e)
 
 pub returns-in-Ok-Path : goal.returns-in-Ok-Path
-returns-in-Ok-Path c = λ tables f e. absurd (false≢true e)
+returns-in-Ok-Path c = λ f e. absurd (false≢true e)

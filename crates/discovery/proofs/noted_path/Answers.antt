@@ -2,6 +2,7 @@ use Rattle.std.specs.Prelude.{Ok}
 use Rattle.std.proofs.lemmas.Result.{err_from_is_err_and}
 use mathlib.Core.Path.{refl, ◌∙◌, ap}
 use native.Mathlib.Omega.{arith}
+use Rattle.receive.specs.Receive.{at}
 use Rattle.receive.specs.Tables.{note_stand}
 use Rattle.discovery.proofs.Notes.{path_refused, path_absent, path_there}
 use Rattle.discovery.proofs.noted_path.Goals as goal
@@ -17,5 +18,5 @@ unfolding note_stand
 returns-in_default c = path_absent _ _ _ _ _ _ c.tally.ensures refl (omega arith) (c.in_ok-walked.was ∙ ap Ok c.in_default.is)
 
 pub returns : goal.returns
-unfolding note_stand
+unfolding note_stand at
 returns c = path_there _ _ _ _ _ _ c.tally.ensures refl (omega arith) _ _ _ _ (c.in_ok-walked.was ∙ ap Ok c.in-Some.is)

@@ -14,12 +14,6 @@ returns-then-output-at c = putting_full _ _ _ _ _ _ _ _ c.loop-ring.invariant c.
 pub put_ring-at-requires : goal.put_ring-at-requires
 put_ring-at-requires c = (omega (arith, c.loop-ring-test.true, c.requires.1), c.loop-ring.invariant.within, c.requires.2, c.requires.3)
 
-pub overflow_add-ring : goal.overflow_add-ring
-overflow_add-ring c = omega (arith, c.loop-ring-test.true, c.requires.1)
-
-pub loop-ring-smaller : goal.loop-ring-smaller
-loop-ring-smaller c = omega (arith, c.loop-ring-test.true)
-
 pub loop-ring-preserved : goal.loop-ring-preserved
 loop-ring-preserved c = putting_on _ _ _ _ _ _ _ _ c.loop-ring.invariant c.loop-ring-test.true _ _ c.put_ring-at.ensures
 

@@ -7,19 +7,10 @@ use Rattle.discovery.proofs.tally_rings.Goals as goal
 pub loop-ring-init : goal.loop-ring-init
 loop-ring-init c = (counted_start _ _ _ _ c.requires.0, c.requires.2, putting_start _ _ _ _ _ c.requires.0)
 
-pub overflow_add-ring : goal.overflow_add-ring
-overflow_add-ring c = omega (arith, c.loop-ring-test.true, c.requires.1)
-
-pub loop-ring-smaller-then-is_idle : goal.loop-ring-smaller-then-is_idle
-loop-ring-smaller-then-is_idle c = omega (arith, c.loop-ring-test.true)
-
 pub loop-ring-preserved-then-is_idle : goal.loop-ring-preserved-then-is_idle
 loop-ring-preserved-then-is_idle c = let i = c.loop-ring.invariant in
     let e = c.is_idle.ensures c.if-is_idle.true in
     (counted_past _ _ _ _ _ _ i.0 c.loop-ring-test.true _ i.1 e, i.1, putting_on _ _ _ _ _ _ _ _ i.2 c.loop-ring-test.true _ _ (ring_idle _ _ _ _ i.1 _ e _ _ i.2.within))
-
-pub overflow_cast-r : goal.overflow_cast-r
-overflow_cast-r c = omega (arith, c.loop-ring-test.true, c.requires.1)
 
 pub plan_ring-requires : goal.plan_ring-requires
 plan_ring-requires c = c.requires.3
@@ -38,12 +29,6 @@ overflow_add-need c = omega (arith, c.loop-ring.invariant.0.few, c.loop-ring.inv
 
 pub put_plan-at-requires : goal.put_plan-at-requires
 put_plan-at-requires c = (c.loop-ring.invariant.2.within, (rw c.in_ok-plan.was at c.plan_ring.ensures).three)
-
-pub overflow_add-ring-else-is_idle : goal.overflow_add-ring-else-is_idle
-overflow_add-ring-else-is_idle c = omega (arith, c.loop-ring-test.true, c.requires.1)
-
-pub loop-ring-smaller : goal.loop-ring-smaller
-loop-ring-smaller c = omega (arith, c.loop-ring-test.true)
 
 pub loop-ring-preserved : goal.loop-ring-preserved
 loop-ring-preserved c = let i = c.loop-ring.invariant in

@@ -4,8 +4,5 @@ use lib.ListN.{length}
 use Rattle.discovery.proofs.Quiet.{Sparing}
 use Rattle.discovery.proofs.unmark_all.Given as goal
 
-abbrev pub invariant-loop-i : goal.invariant-loop-i
-invariant-loop-i l = Sparing l.tables.entries.now l.place l.adapter l.i l.idle × (length l.idle ≡ length l.initial.idle)
-
-abbrev pub decreases-loop-i : goal.decreases-loop-i
-decreases-loop-i l = length l.tables.entries.now - l.i
+abbrev pub invariant-loop-entry : goal.invariant-loop-entry
+invariant-loop-entry l = Sparing l.entries l.place l.adapter l.entry-index l.idle × (length l.idle ≡ length l.initial.idle)

@@ -11,4 +11,4 @@ pub returns-then-kept-vs : goal.returns-then-kept-vs
 returns-then-kept-vs c = let h = c.requires.1 in (h, laws.keep_ids _ _ _ _ _ _ c.word_at.ensures _ _ c.word_at-ids.ensures c.word_at-vs.ensures _ h c.if-kept-ids.true c.if-kept-vs.true)
 
 pub returns : goal.returns
-returns c = laws.keep_new _ _ _ _ _ _ c.word_at.ensures _ _ c.word_at-ids.ensures c.word_at-vs.ensures _ c.fields_of.ensures
+returns c = laws.keep_new _ _ _ _ _ _ c.word_at.ensures _ _ c.word_at-ids.ensures c.word_at-vs.ensures _ (rw c.from.ensures at c.fields_of.ensures)

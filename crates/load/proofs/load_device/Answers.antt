@@ -37,5 +37,5 @@ returns c = let a = c.args in
     let e = c.word_at-w.ensures in
     let some : no_registers (device_at a.survey.now a.at) ≡ false = elim c.if-w-eq1.branch [ then-w-eq1+else-survey-next_register w ↦ registers_some a.survey.now a.at _ e w.if-w-eq1.true _ w.next_register.ensures w.if-survey-next_register.false | else-w-eq1 w ↦ registers_unread a.survey.now a.at _ e w.if-w-eq1.false ] in
     let fit = fits_told (descriptions_of a.descriptions.now) a.survey.now a.place a.at _ _ _ c.fits_device.ensures c.router_cs_1-cs1.ensures.answer c.in_ok-fits_device.was in
-    let row = mark_row a.survey.now a.at _ e (descriptions_of a.descriptions.now) a.place _ _ _ c.word_at.ensures (c.upstream_of-upstream.ensures a.place ∙ ap (λ n. upstream_in a.place n) c.router_cs_1-cs1.ensures.answer) c.mark_word-mark.ensures in
+    let row = mark_row a.survey.now a.at _ e (descriptions_of a.descriptions.now) a.place _ _ _ _ c.from.ensures c.word_at.ensures (c.upstream_of-upstream.ensures a.place ∙ ap (λ n. upstream_in a.place n) c.router_cs_1-cs1.ensures.answer) c.mark_word-mark.ensures in
     record { rows = device_rows_lem (descriptions_of a.descriptions.now) a.place (device_at a.survey.now a.at) _ _ some fit _ _ _ (adapters_told (descriptions_of a.descriptions.now) a.survey.now a.place a.at _ _ _ (same_usb4 a.survey.now a.at _ e) c.load_adapters.ensures.rows) _ _ _ c.in_ok-rows.was _ row; within = device_within _ _ _ _ _ _ _ c.load_adapters.ensures.within c.in_ok-rows.was }

@@ -9,4 +9,4 @@ pub push_from-requires : goal.push_from-requires
 push_from-requires c = (omega (arith, c.requires.0), omega (arith, c.requires.1), c.requires.2, c.requires.3, laws.least_fits c.args.kind _ c.min_hop.ensures _ c.in-Some.is)
 
 pub returns : goal.returns
-returns c = record { rows = laws.by_least _ _ _ _ c.args.entries.now _ c.args.n _ c.min_hop.ensures _ c.in-Some.is _ c.type_number.ensures _ c.push_from.ensures.rows; within = c.push_from.ensures.within }
+returns c = record { rows = laws.by_least _ _ _ _ c.args.entries.now _ c.args.n _ c.min_hop.ensures _ c.in-Some.is _ c.push_from.ensures.rows; within = c.push_from.ensures.within }

@@ -17,7 +17,7 @@ fields_of-requires c = tt
 
 pub loop-i-init : goal.loop-i-init
 unfolding KeptFor
-loop-i-init c = (laws.pushing_start _ _ _ _ _ _ _ _ _ c.requires.0 c.requires.1 c.next_register-i.ensures, c.fields_of.ensures)
+loop-i-init c = (laws.pushing_start _ _ _ _ _ _ _ _ _ c.requires.0 c.requires.1 c.next_register-i.ensures, rw c.from.ensures at c.fields_of.ensures)
 
 pub keep-kept-requires : goal.keep-kept-requires
 keep-kept-requires c = ((laws.pushing_room _ _ _ _ _ _ _ _ _ _ _ _ c.loop-i.invariant.0 c.loop-i-test.true c.requires.2).0, c.loop-i.invariant.1)

@@ -1,3 +1,4 @@
+use Rattle.usb4.specs.Numbers.{type_number}
 use Rattle.layout.specs.Description.{descriptions_of}
 use lib.ListN.{length}
 use Prim.Native.Nat.{◌-◌}
@@ -6,7 +7,7 @@ use Rattle.load.proofs.Entries as laws
 use Rattle.load.proofs.push_from.Given as goal
 
 abbrev pub invariant-loop-i : goal.invariant-loop-i
-invariant-loop-i l = laws.Pushing (descriptions_of l.descriptions) l.site l.kind l.least l.survey l.initial.entries l.from l.n l.entries l.count l.at l.i × KeptFor (descriptions_of l.descriptions) l.kind l.kept
+invariant-loop-i l = laws.Pushing (descriptions_of l.descriptions) l.site (type_number l.kind) l.least l.survey l.initial.entries l.from l.n l.entries l.count l.at l.i × KeptFor (descriptions_of l.descriptions) (type_number l.kind) l.kept
 
 abbrev pub decreases-loop-i : goal.decreases-loop-i
 decreases-loop-i l = length l.survey - l.i

@@ -12,4 +12,4 @@ pub slice_bounds-load-end-2 : goal.slice_bounds-load-end-2
 slice_bounds-load-end-2 c = sym (length-take-le _ _ (omega (arith, few_words _ _ (search rules) _ _ c.read-read.ensures, c.unwrap_or-n.ensures)))
 
 pub returns : goal.returns
-returns c = opens_read _ _ (search rules) _ _ c.read-read.ensures c.load-loaded.result _ _ _ c.ours-ours.ensures c.unwrap_or-n.ensures c.load-loaded.ensures.answer c.answer_of-answer.ensures
+returns c = opens_read _ _ (search rules) _ _ c.read-read.ensures _ _ _ c.ours-ours.ensures c.unwrap_or-n.ensures c.load-loaded.ensures c.answer_of-answer.ensures

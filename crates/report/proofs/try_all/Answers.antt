@@ -35,7 +35,7 @@ pub overflow_add-total : goal.overflow_add-total
 overflow_add-total c =
     let t : Trying c.args.tables.now (c.loop-index.total + c.tunnels-total.result) (c.loop-index.index + 1) =
     one_tried _ _ _ c.loop-index.invariant.1 c.loop-index-test.true _ _ c.answer_at.ensures (c.answer_at.auto.words ∙ c.loop-index.invariant.0) _ c.in_ok-n.was _ c.tunnels-total.ensures in
-    let f : Fits c.args.tables.now.entries.now c.args.tables.now.adapters.now c.args.tables.now.routes.now = c.larger.ensures.0 c.if-larger.false in
+    let f : Fits c.args.tables.now = c.larger.ensures.0 c.if-larger.false in
     omega (arith, t.few, t.past, f.adapters)
 
 pub loop-index-preserved : goal.loop-index-preserved

@@ -1,7 +1,28 @@
 use borrow.Author.Rules.{rules}
-use Rattle.scan.specs.Scan.{is_space, is_not}
+use mathlib.Core.Path.{◌≡◌, ◌∙◌, ap, sym, refl}
+use native.Mathlib.Omega.{arith}
+use Prim.Native.Nat.{◌≤◌}
+use lib.ListN.{length}
+use Rattle.scan.specs.Scan.{is_space, is_not, place_from}
+use Rattle.scan.proofs.Laws.{place_above, place_within}
+use Rattle.std.proofs.Math.Nat.{min-le_right}
 use Rattle.scan.proofs.token.Goals as goal
+
+pub slice_bounds-text-count : goal.slice_bounds-text-count
+slice_bounds-text-count c = omega (arith, c.place-end.ensures is_space (λ b r h k. search rules), place_above is_space c.args.s.now c.place-start.result)
+
+pub slice_bounds-text-start : goal.slice_bounds-text-start
+slice_bounds-text-start c = omega (arith, c.place-end.ensures is_space (λ b r h k. search rules), place_above is_space c.args.s.now c.place-start.result)
+
+pub slice_bounds-text-end : goal.slice_bounds-text-end
+unfolding is_not
+slice_bounds-text-end c = let s = c.args.s.now in
+    let m : c.min.result ≤ length s = rw c.min.ensures (min-le_right c.args.at (length s)) in
+    let e : c.place-start.result ≡ place_from (is_not is_space) s c.min.result = c.place-start.ensures (is_not is_space) (λ b r h k. search rules) in
+    omega (arith, c.place-end.ensures is_space (λ b r h k. search rules), place_within is_space s c.place-start.result (omega (arith, e, place_within (is_not is_space) s c.min.result m)))
 
 pub returns : goal.returns
 unfolding is_not
-returns c = (c.place-start.ensures (is_not is_space) (λ b r h k. search rules), c.place-end.ensures is_space (λ b r h k. search rules))
+returns c = let s = c.args.s.now in
+    let e : c.place-start.result ≡ place_from (is_not is_space) s c.min.result = c.place-start.ensures (is_not is_space) (λ b r h k. search rules) in
+    rw (sym (e ∙ ap (λ i. place_from (is_not is_space) s i) c.min.ensures)) (c.place-end.ensures is_space (λ b r h k. search rules), refl)

@@ -8,15 +8,15 @@ use Rattle.state.proofs.lane_state.Goals as goal
 
 pub returns-in_default : goal.returns-in_default
 unfolding bytes_of
-returns-in_default c = c.untold.ensures ∙ laws.lane_nowhere _ _ _ _ c.by_name.ensures.answer _ c.in_default.is
+returns-in_default c = c.untold.ensures ∙ laws.lane_nowhere _ _ _ _ c.of_adapter.ensures.answer _ c.in_default.is
 
 pub overflow_add-register : goal.overflow_add-register
-overflow_add-register c = omega (arith, laws.found_within _ _ _ _ c.by_name.ensures.within c.in-Some.is)
+overflow_add-register c = omega (arith, laws.found_within _ _ _ _ c.of_adapter.ensures.within c.in-Some.is)
 
 pub returns-in_default-field_value : goal.returns-in_default-field_value
 unfolding bytes_of
-returns-in_default-field_value c = laws.lane_lacks _ _ _ _ c.by_name.ensures.answer _ _ c.in-Some.is _ c.word_at-value.ensures _ _ c.field_value.ensures (c.in_default-field_value.is ∙ ap Err (no_field _))
+returns-in_default-field_value c = laws.lane_lacks _ _ _ _ c.of_adapter.ensures.answer _ _ c.in-Some.is _ c.word_at-value.ensures _ _ c.field_value.ensures (c.in_default-field_value.is ∙ ap Err (no_field _))
 
 pub returns : goal.returns
 unfolding bytes_of
-returns c = laws.lane_has _ _ _ _ c.by_name.ensures.answer _ _ c.in-Some.is _ c.word_at-value.ensures _ _ c.field_value.ensures _ c.in-Ok.is _ c.lane_state.ensures
+returns c = laws.lane_has _ _ _ _ c.of_adapter.ensures.answer _ _ c.in-Some.is _ c.word_at-value.ensures _ _ c.field_value.ensures _ c.in-Ok.is _ c.lane_state.ensures

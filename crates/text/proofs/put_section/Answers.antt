@@ -9,11 +9,11 @@ use Rattle.text.proofs.put_section.Goals as goal
 
 pub put_device-requires : goal.put_device-requires
 unfolding marker_by
-put_device-requires c = (c.requires.0, omega arith, omega (arith, c.requires.2, ap length (body_router c.args.line.now c.args.body.now (sections_from c.args.text.now c.args.next) _ _ (ap marker_by (sym c.in-Router.is) ∙ c.marker.ensures)), device_four 1 c.in-Router.domain c.in-Router.route (sections_from c.args.text.now c.args.next)))
+put_device-requires c = (c.requires.0, omega (arith, c.requires.2, ap length (body_router c.args.line.now c.args.body.now (sections_from c.args.text.now c.args.next) _ _ (ap marker_by (sym c.in-Router.is) ∙ c.marker.ensures)), device_four 1 c.in-Router.domain c.in-Router.route (sections_from c.args.text.now c.args.next)))
 
 pub put_device-requires-in-Xdomain : goal.put_device-requires-in-Xdomain
 unfolding marker_by
-put_device-requires-in-Xdomain c = (c.requires.0, omega arith, omega (arith, c.requires.2, ap length (body_xdomain c.args.line.now c.args.body.now (sections_from c.args.text.now c.args.next) _ _ (ap marker_by (sym c.in-Xdomain.is) ∙ c.marker.ensures)), device_four 2 c.in-Xdomain.domain c.in-Xdomain.route (sections_from c.args.text.now c.args.next)))
+put_device-requires-in-Xdomain c = (c.requires.0, omega (arith, c.requires.2, ap length (body_xdomain c.args.line.now c.args.body.now (sections_from c.args.text.now c.args.next) _ _ (ap marker_by (sym c.in-Xdomain.is) ∙ c.marker.ensures)), device_four 2 c.in-Xdomain.domain c.in-Xdomain.route (sections_from c.args.text.now c.args.next)))
 
 pub put_dump-requires : goal.put_dump-requires
 unfolding marker_by
