@@ -9,11 +9,10 @@ use mathlib.Core.List.{List, []}
 use lib.ListN.{length}
 use Rattle.refusal.specs.Outcome.{Outcome, refused, value, bind}
 use Rattle.refusal.specs.declared.Fault.TheVariants as fault
-use Rattle.usb4.specs.declared.Speed.{Speed}
 use Rattle.state.specs.State.{is_enabled}
-use Rattle.adapter.specs.Adapter.{AdapterRow, adapter_site, facts_row, min_hop}
+use Rattle.adapter.specs.Adapter.{AdapterRow, facts_row, min_hop}
 use Rattle.adapter.specs.declared.Facts.{Facts}
-use Rattle.tables.specs.Rows.{Rows, EntryRow, DeviceRow, entry_in, adapter_in}
+use Rattle.tables.specs.Rows.{EntryRow, DeviceRow, entry_in, adapter_in}
 use Rattle.tables.specs.Packed.{entries_in, adapters_in}
 use Rattle.tables.specs.Found.{EntrySought, adapter_found, AdapterSought}
 use Rattle.tables.proofs.Laws.{device_past_routes, device_at_lem}
@@ -23,12 +22,12 @@ use Rattle.load.specs.Answers.{tables_rows, present, asked_device, asked_adapter
 use Rattle.load.proofs.Result.{tables_ended, tables_gone_on}
 use Rattle.tables.specs.Tables.{rows_of, Tabled}
 use Rattle.tables.specs.declared.Tables.{Tables}
-use Rattle.refusal.specs.Refusal.{refused_by}
 use Rattle.refusal.specs.declared.Refusal.{Refusal}
 use Rattle.refusal.specs.declared.Refusal.TheVariants as refusal
-use Rattle.adapters.specs.Calls.{info_of, row_answer, adapter_answer, speed_answer, max_hop_answer, path_answer, path_outcome}
+use Rattle.adapters.specs.Calls.{info_of, row_answer, path_answer, path_outcome}
 use Rattle.adapters.specs.Work.{row_outcome}
-use Rattle.refusal.specs.Refusal.{outcome}
+use Rattle.refusal.specs.Refusal.{outcome, field_at}
+use Rattle.refusal.specs.declared.Site.{Site}
 use Rattle.refusal.specs.declared.FieldError.{FieldError}
 use Rattle.adapter.specs.declared.EntryOut.{EntryOut}
 
@@ -107,61 +106,26 @@ module _ (q : Result Tables Refusal) (t s : List ℕ) (same : tables_rows q ≡ 
         path_found hop w b = ap (λ o. value o) (b.first (omega (arith, h, v.devices)) v.entry_order) ∙ ap (λ o. with_entry_lem hop o) here ∙ to_path hop
 
 -- by the row that was found
-module _ (t s : List ℕ) (p n : ℕ) (r : Result Facts Refusal) (q : row_outcome p r ≡ row_answer t s p n) where
-  module _ (z : Refusal) (k : r ≡ Err z) where
-    no_row : refused_by z ≡ row_answer t s p n
-    unfolding row_outcome
-    no_row = ap (λ o. row_outcome p o) (sym k) ∙ q
+module _ {A : Type 0} (t s : List ℕ) (p n : ℕ) (r : Result Facts Refusal) (q : row_outcome p r ≡ row_answer t s p n) (f : AdapterRow → Outcome A) where
+  pub row_ended : (z : Refusal) → r ≡ Err z → outcome (Err z) ≡ bind (row_answer t s p n) f
+  unfolding row_outcome
+  row_ended z k = sym (refused_bind z f) ∙ ap (λ (o : Outcome AdapterRow). bind o f) (sym (ap (row_outcome p) k) ∙ q)
 
-    pub adapter_refused : outcome (Err z) ≡ adapter_answer t s p n
-    unfolding adapter_answer
-    adapter_refused = sym (refused_bind z _) ∙ ap (λ (o : Outcome AdapterRow). bind o (λ x. value (info_of x))) no_row
+  pub row_gone_on : (x : Facts) → r ≡ Ok x → f (facts_row p x) ≡ bind (row_answer t s p n) f
+  unfolding row_outcome bind
+  row_gone_on x k = ap (λ (o : Outcome AdapterRow). bind o f) (sym (ap (row_outcome p) k) ∙ q)
 
-    pub speed_refused : outcome (Err z) ≡ speed_answer t s p n
-    unfolding speed_answer
-    speed_refused = sym (refused_bind z _) ∙ ap (λ (o : Outcome AdapterRow). bind o (λ x. x.speed)) no_row
+pub info_said : (p : ℕ) (x : Facts) (h : Option ℕ) → h ≡ min_hop x.kind → (b : Bool) → b ≡ is_enabled x.kind x.state
+    → outcome (Ok (record { kind = x.kind; state = x.state; lane0 = x.lane0; lane1 = x.lane1; min_hop = h; enabled = b })) ≡ value (info_of (facts_row p x))
+unfolding info_of facts_row
+info_said p x h e b f =
+    ap (λ o. value (record { kind = x.kind; state = x.state; lane0 = x.lane0; lane1 = x.lane1; min_hop = o; enabled = b })) e
+    ∙ ap (λ o. value (record { kind = x.kind; state = x.state; lane0 = x.lane0; lane1 = x.lane1; min_hop = min_hop x.kind; enabled = o })) f
 
-    pub hop_refused : outcome (Err z) ≡ max_hop_answer t s p n
-    unfolding max_hop_answer
-    hop_refused = sym (refused_bind z _) ∙ ap (λ (o : Outcome AdapterRow). bind o (λ x. x.max_hop)) no_row
-
-  module _ (x : Facts) (k : r ≡ Ok x) where
-    its_row : value (facts_row p x) ≡ row_answer t s p n
-    unfolding row_outcome
-    its_row = ap (λ o. row_outcome p o) (sym k) ∙ q
-
-    pub adapter_info : (h : Option ℕ) → h ≡ min_hop x.kind → (b : Bool) → b ≡ is_enabled x.kind x.state
-        → outcome (Ok (record { kind = x.kind; state = x.state; lane0 = x.lane0; lane1 = x.lane1; min_hop = h; enabled = b })) ≡ adapter_answer t s p n
-    unfolding info_of facts_row adapter_answer bind
-    adapter_info h e b f =
-        ap (λ o. value (record { kind = x.kind; state = x.state; lane0 = x.lane0; lane1 = x.lane1; min_hop = o; enabled = b })) e
-        ∙ ap (λ o. value (record { kind = x.kind; state = x.state; lane0 = x.lane0; lane1 = x.lane1; min_hop = min_hop x.kind; enabled = o })) f
-        ∙ ap (λ (o : Outcome AdapterRow). bind o (λ y. value (info_of y))) its_row
-
-    to_speed : speed_by (adapter_site p x.number) x.speed ≡ speed_answer t s p n
-    unfolding facts_row speed_answer bind
-    to_speed = ap (λ (o : Outcome AdapterRow). bind o (λ y. y.speed)) its_row
-
-    abbrev lacks : Refusal
-    lacks = refusal.Fault (fault.NoField (record { place = p; adapter = x.number }))
-
-    pub speed_found : (o : Option Speed) → o ≡ result_ok x.speed → (v : Result Speed Refusal) → v ≡ ok_or o lacks → outcome v ≡ speed_answer t s p n
-    unfolding speed_by adapter_site
-    speed_found o e v f = ap outcome (f ∙ ap (λ w. ok_or w lacks) e) ∙ go x.speed ∙ to_speed
-      where
-        go : (q : Result Speed FieldError) → outcome (ok_or (result_ok q) lacks) ≡ speed_by (adapter_site p x.number) q
-        go (Ok a) = refl
-        go (Err z) = refl
-
-    to_hop : max_hop_by (adapter_site p x.number) x.max_hop ≡ max_hop_answer t s p n
-    unfolding facts_row max_hop_answer bind
-    to_hop = ap (λ (o : Outcome AdapterRow). bind o (λ y. y.max_hop)) its_row
-
-    pub hop_found : (o : Option (Option ℕ)) → o ≡ result_ok x.max_hop → (v : Result (Option ℕ) Refusal) → v ≡ ok_or o lacks → outcome v ≡ max_hop_answer t s p n
-    unfolding max_hop_by adapter_site
-    hop_found o e v f = ap outcome (f ∙ ap (λ w. ok_or w lacks) e) ∙ go x.max_hop ∙ to_hop
-      where
-        go : (q : Result (Option ℕ) FieldError) → outcome (ok_or (result_ok q) lacks) ≡ max_hop_by (adapter_site p x.number) q
-        go (Ok (Some h)) = refl
-        go (Ok None) = refl
-        go (Err z) = refl
+-- what a field says, or 6 with its place
+pub field_said : {A : Type 0} (s : Site) (q : Result A FieldError) (o : Option A) → o ≡ result_ok q → (v : Result A Refusal) → v ≡ ok_or o (refusal.Fault (fault.NoField s)) → outcome v ≡ field_at s q
+field_said {A} s q o e v f = ap outcome (f ∙ ap (λ w. ok_or w (refusal.Fault (fault.NoField s))) e) ∙ go q
+  where
+    go : (x : Result A FieldError) → outcome (ok_or (result_ok x) (refusal.Fault (fault.NoField s))) ≡ field_at s x
+    go (Ok a) = refl
+    go (Err z) = refl

@@ -1,7 +1,7 @@
 -- Laws on outcomes, and on the device and the adapter that are asked for. Assumes nothing.
 use Prim.Native.Nat.{ℕ, ◌≤◌, ◌<◌}
 use mathlib.Core.Path.{◌≡◌, refl, sym, ap, ◌∙◌}
-use mathlib.Core.List.{List}
+use mathlib.Core.List.{List, []}
 use Rattle.std.specs.Prelude.{Option, None, Some, Err, Ok, Result, ok_or}
 use Rattle.std.proofs.lemmas.Option.{none-some}
 use native.Mathlib.Omega.{arith}
@@ -21,13 +21,11 @@ use Rattle.load.proofs.Result.{tables_gone_on}
 use Rattle.refusal.proofs.Laws.{refused_bind}
 use Rattle.load.specs.Loading.{loaded}
 use Rattle.load.specs.Answers.{tables_rows, present, asked_device}
-use Rattle.refusal.specs.Refusal.{refused_by, field_at}
-use Rattle.refusal.specs.declared.Site.{Site}
+use Rattle.refusal.specs.Refusal.{refused_by}
 use Rattle.refusal.specs.declared.Refusal.{Refusal}
 use Rattle.refusal.specs.declared.Refusal.TheVariants as refusal
 use Rattle.devices.specs.Calls.{on_adapter}
-use Rattle.devices.specs.Work.{Pair, read_device, read_outcome, read_pair, pair_outcome}
-use Rattle.devices.specs.declared.Pair.{Pair as PairFacts}
+use Rattle.devices.specs.Work.{read_device, read_outcome}
 
 -- ---- outcomes
 
@@ -90,41 +88,23 @@ module _ {B : Type 0} (t s : List ℕ) (p : ℕ) (k : DeviceRow → Outcome B) (
 
 -- ---- the adapter that is asked for
 
-abbrev pub pair_of : Option AdapterRow → DeviceRow → Outcome Pair
-pair_of y d = bind (present y) (λ u. value (record { device = d; adapter = u }))
-
-abbrev pub pair_in : ℕ → ℕ → Rows → DeviceRow → Outcome Pair
-pair_in p n x d = pair_of (adapter_in x.adapters p n) d
-
-pair_bind : (o : Outcome Rows) (p n : ℕ) (f : DeviceRow → AdapterRow → Outcome (Option ℕ))
-    → bind (bind o (λ x. bind (asked_device x p) (pair_in p n x))) (λ w. f w.device w.adapter) ≡ bind o (λ x. bind (asked_device x p) (λ d. bind (present (adapter_in x.adapters p n)) (λ y. f d y)))
-unfolding bind asked_device present
-pair_bind (refused m vs) p n f = refl
-pair_bind (value x) p n f = go (device_in x.devices p) (adapter_in x.adapters p n)
-  where
-    go : (d : Option DeviceRow) (y : Option AdapterRow)
-        → bind (bind (present d) (pair_of y)) (λ w. f w.device w.adapter) ≡ bind (present d) (λ v. bind (present y) (λ u. f v u))
-    go None y = refl
-    go (Some d) None = refl
-    go (Some d) (Some y) = refl
-
 -- the device is there, so the adapter is what is found of it
-pub pair_asked : (q : Result Tables Refusal) (s l : List ℕ) (t : Tables) (p n : ℕ) (x : DeviceRow) (r : Option Facts)
-    → tables_rows q ≡ loaded s l → q ≡ Ok t → Tabled t → Some x ≡ device_in (devices_in t.routes.now t.marks.now) p → AdapterSought t.adapters.now p n r
-    → pair_of (adapter_found p r) x ≡ read_pair s l p n
-unfolding read_pair present bind rows_of
-pair_asked q s l t p n x r same g w f h =
-    ap (λ (o : Option AdapterRow). pair_of o x) (h.first (place_fits t p x w.devices f) w.adapter_order) ∙ asked q (loaded s l) t p (pair_in p n) (Some x) same g f
+module _ (q : Result Tables Refusal) (s l : List ℕ) (t : Tables) (p n : ℕ) (f : DeviceRow → AdapterRow → Outcome (Option ℕ)) (same : tables_rows q ≡ loaded s l) (k : q ≡ Ok t) (w : Tabled t)
+    (o : Option DeviceFacts) (e : device_found p o ≡ device_in (devices_in t.routes.now t.marks.now) p) (d : DeviceFacts) (i : o ≡ Some d) (r : Option Facts) (h : AdapterSought t.adapters.now p n r) where
+  found : Some (device_row p d) ≡ device_in (devices_in t.routes.now t.marks.now) p
+  unfolding device_found
+  found = sym (ap (device_found p) i) ∙ e
 
-module _ (t s : List ℕ) (p n : ℕ) (f : DeviceRow → AdapterRow → Outcome (Option ℕ)) (x : Result PairFacts Refusal) (e : pair_outcome p x ≡ read_pair t s p n) where
-  pair_then : bind (pair_outcome p x) (λ w. f w.device w.adapter) ≡ on_adapter t s p n f
-  unfolding read_pair on_adapter
-  pair_then = ap (λ (o : Outcome Pair). bind o (λ w. f w.device w.adapter)) e ∙ pair_bind (loaded t s) p n f
+  by_both : bind (present (adapter_found p r)) (f (device_row p d)) ≡ on_adapter s l p n f
+  unfolding on_adapter present bind rows_of
+  by_both =
+      ap (λ (y : Option AdapterRow). bind (present y) (f (device_row p d))) (h.first (place_fits t p _ w.devices found) w.adapter_order)
+      ∙ asked q (loaded s l) t p (λ x y. bind (present (adapter_in x.adapters p n)) (f y)) (Some (device_row p d)) same k found
 
-  pub pair_refused : (r : Refusal) → x ≡ Err r → refused_by r ≡ on_adapter t s p n f
-  unfolding pair_outcome
-  pair_refused r g = sym (refused_bind r (λ w. f w.device w.adapter)) ∙ ap (λ (y : Result PairFacts Refusal). bind (pair_outcome p y) (λ w. f w.device w.adapter)) (sym g) ∙ pair_then
+  pub adapter_missing : r ≡ None → refused 14 [] ≡ on_adapter s l p n f
+  unfolding present bind adapter_found
+  adapter_missing j = ap (λ (y : Option Facts). bind (present (adapter_found p y)) (f (device_row p d))) (sym j) ∙ by_both
 
-  pub pair_both : (y : PairFacts) → x ≡ Ok y → f (device_row p y.device) (facts_row p y.adapter) ≡ on_adapter t s p n f
-  unfolding pair_outcome bind
-  pair_both y g = ap (λ (z : Result PairFacts Refusal). bind (pair_outcome p z) (λ w. f w.device w.adapter)) (sym g) ∙ pair_then
+  pub adapter_there : (a : Facts) → r ≡ Some a → f (device_row p d) (facts_row p a) ≡ on_adapter s l p n f
+  unfolding present bind adapter_found
+  adapter_there a j = ap (λ (y : Option Facts). bind (present (adapter_found p y)) (f (device_row p d))) (sym j) ∙ by_both

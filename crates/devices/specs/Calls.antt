@@ -1,16 +1,13 @@
 -- Document 01, module 6 on a loaded survey: depth, upstream adapter and routes. 3, 4, loading, 14, then 6, 11 or 12 as met. Assumes nothing.
-use Rattle.std.specs.Prelude.{Option, Err, Ok, Result, ℕ, Bool, List}
+use Rattle.std.specs.Prelude.{Option, ℕ, List}
 use Rattle.refusal.specs.Outcome.{Outcome, value, bind}
-use Rattle.usb4.specs.declared.Kind.{Kind}
 use Rattle.route.specs.Route.{depth_of}
 use Rattle.adapter.specs.Adapter.{AdapterRow}
 use Rattle.tables.specs.Rows.{DeviceRow, adapter_in}
 use Rattle.load.specs.Loading.{loaded}
 use Rattle.load.specs.Answers.{present, asked_device}
-use Rattle.refusal.specs.Refusal.{refused_by}
 use Rattle.fabric.specs.Links.{upstream_route_of, downstream_route_of}
 use Rattle.devices.specs.declared.DeviceInfo.{DeviceInfo}
-use Rattle.refusal.specs.declared.Refusal.{Refusal}
 
 -- what is said of a device that was loaded
 unfoldable pub info_of : DeviceRow → DeviceInfo

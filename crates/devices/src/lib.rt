@@ -6,7 +6,6 @@ ghost use Rattle.devices.specs.Calls.{device_answer, upstream_answer};
 ghost use Rattle.devices.specs.Work.{read_device, read_outcome};
 ghost use Rattle.refusal.specs.Refusal.{outcome};
 
-use adapter::Facts;
 use refusal::{Fault, FieldError, Refusal, Site};
 use tables::DeviceFacts;
 use usb4::Kind;
@@ -19,13 +18,6 @@ pub struct DeviceInfo {
     pub domain: u32,
     pub route: u64,
     pub depth: u32,
-}
-
-// The adapter that is asked for, and its device.
-#[derive(Clone, Copy)]
-pub struct Pair {
-    pub device: DeviceFacts,
-    pub adapter: Facts,
 }
 
 // The device at a place: 3, 4, loading, 14.

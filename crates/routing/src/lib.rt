@@ -2,27 +2,30 @@
 #![tactic(auto)]
 
 ghost use Rattle.std.specs.Prelude.{◌≡◌};
-ghost use Rattle.devices.specs.Calls.{upstream_route_answer, downstream_route_answer};
-ghost use Rattle.devices.specs.Work.{read_pair, pair_outcome};
+ghost use Rattle.devices.specs.Calls.{on_adapter, upstream_route_answer, downstream_route_answer};
+ghost use Rattle.routing.specs.Work.{Answers};
 ghost use Rattle.refusal.specs.Refusal.{outcome};
 
-use devices::Pair;
-use refusal::Refusal;
+use adapter::Facts;
+use refusal::{Fault, Refusal};
+use tables::DeviceFacts;
 
-// The adapter of the device at a place with a number, and the device: 3, 4, loading, 14.
-fn read_pair(
+// A route of the adapter of the device at a place with a number, by both: 3, 4, loading, 14, then as met.
+fn ask<F: FnOnce(usize, DeviceFacts, Facts) -> Result<Option<u64>, Fault>>(
     descriptions: &[u32],
     survey: &[u32],
     place: usize,
     number: u8,
-) -> Result<Pair, Refusal>
-    ensures { pair_outcome place result ≡ read_pair descriptions.now survey.now place number }
+    route: F,
+) -> Result<Option<u64>, Refusal>
+    requires { F.IsAlwaysCallable route }
+    ensures { (f : _) → Answers place (F.post route place) f → outcome result ≡ on_adapter descriptions.now survey.now place number f }
 {
     let loaded = load::load(descriptions, survey);
     let tables = loaded.tables()?;
     let device = routers::find_device(&tables, place).ok_or(Refusal::Missing)?;
     let adapter = search::find_adapter(tables.adapters, place, number).ok_or(Refusal::Missing)?;
-    Ok(Pair { device, adapter })
+    Ok(route(place, device, adapter)?)
 }
 
 // The route before an adapter that is an upstream lane, none, or 11.
@@ -34,8 +37,13 @@ pub fn upstream_route(
 ) -> Result<Option<u64>, Refusal>
     ensures { outcome result ≡ upstream_route_answer descriptions.now survey.now place number }
 {
-    let pair = read_pair(descriptions, survey, place, number)?;
-    Ok(links::upstream_route_of(place, pair.device, pair.adapter)?)
+    ask(
+        descriptions,
+        survey,
+        place,
+        number,
+        links::upstream_route_of,
+    )
 }
 
 // The route behind an adapter that is a lane, none, or 12.
@@ -47,6 +55,11 @@ pub fn downstream_route(
 ) -> Result<Option<u64>, Refusal>
     ensures { outcome result ≡ downstream_route_answer descriptions.now survey.now place number }
 {
-    let pair = read_pair(descriptions, survey, place, number)?;
-    Ok(links::downstream_route_of(place, pair.device, pair.adapter)?)
+    ask(
+        descriptions,
+        survey,
+        place,
+        number,
+        links::downstream_route_of,
+    )
 }
