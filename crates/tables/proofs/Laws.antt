@@ -195,23 +195,6 @@ module _ (t : List ℕ) (p a r : ℕ) (lp : p < 65536) (la : a < 256) (b : Bound
 
 -- ---- numbers that stand for something else
 
-pub number_none : (s : Site) (n : ℕ) → n < 1 → value None ≡ number_by s n
-unfolding number_by
-number_none s zero l = refl
-number_none s (suc n) l = absurd (omega arith)
-
-pub number_lacks : (s : Site) (n : ℕ) → 1 ≤ n → n < 2 → refusal_of (NoField s) ≡ number_by s n
-unfolding number_by
-number_lacks s zero k l = absurd (omega arith)
-number_lacks s (suc zero) k l = refl
-number_lacks s (suc (suc n)) k l = absurd (omega arith)
-
-pub number_given : (s : Site) (n : ℕ) → 2 ≤ n → value (Some (n - 2)) ≡ number_by s n
-unfolding number_by
-number_given s zero k = absurd (omega arith)
-number_given s (suc zero) k = absurd (omega arith)
-number_given s (suc (suc n)) k = ap (λ (m : ℕ). value (Some m)) (omega arith)
-
 pub upstream_none : (s : Site) (n : ℕ) → n < 1 → value None ≡ upstream_by s n
 unfolding upstream_by
 upstream_none s zero l = refl
