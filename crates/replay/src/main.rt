@@ -47,7 +47,7 @@ struct InHand {
 fn input(line: &[u8], bytes: &mut [u8]) -> Option<usize>
     ensures { IfSome result (λ n. n ≤ length bytes.new) }
 {
-    cases::bytes(scan::part(line, scan::token(line, 0)), bytes)
+    cases::bytes(scan::token(line, 0).text, bytes)
 }
 
 fn input_agrees(

@@ -5,7 +5,6 @@
 mod answer;
 
 use cases::Compare;
-use scan::Span;
 use std::rt::Files;
 use std::{fs, io};
 
@@ -13,14 +12,14 @@ use std::{fs, io};
 #[derive(Drop)]
 struct Texts;
 
-fn text_agrees(line: &[u8], text: Span, printed: Span) -> bool {
+fn text_agrees(text: &[u8], printed: &[u8]) -> bool {
     // As much as the program reads.
     let mut bytes = cases::room::<65537>();
-    let Some(n) = cases::bytes(scan::part(line, text), &mut bytes) else {
+    let Some(n) = cases::bytes(text, &mut bytes) else {
         return false;
     };
     let mut stored = cases::room::<131072>();
-    match cases::bytes(scan::part(line, printed), &mut stored) {
+    match cases::bytes(printed, &mut stored) {
         Some(m) => answer::is_printed(&stored[..m], &bytes[..n]),
         None => false,
     }
@@ -30,7 +29,7 @@ impl Compare for Texts {
     fn agrees(&mut self, line: &[u8]) -> bool {
         let text = scan::token(line, 0);
         let printed = scan::token(line, text.end);
-        printed.end == line.len() && text_agrees(line, text, printed)
+        printed.end == line.len() && text_agrees(text.text, printed.text)
     }
 }
 
