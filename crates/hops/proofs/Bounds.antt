@@ -26,7 +26,6 @@ use Rattle.adapter.specs.Paths.{PathEntry, entry_in, entry_of, with_entry, entri
 use Rattle.tables.specs.Rows.{EntryRow, Rows, joined}
 use Rattle.load.specs.Loading.{missing, and_then, owned, own_rows, load_adapter, load_adapters, device_rows, fits, no_registers, load_device, load_from, loaded}
 use Rattle.load.proofs.Order.{Holds, holds_value, holds_refused, holds_bind, holds_map, holds_any, holds_fault, holds_cond}
-use Rattle.tables.specs.Tables.{Fits}
 
 -- ---- devices of survey words
 

@@ -22,9 +22,8 @@ use Rattle.path.specs.Words.{hop_words, hops_words, path_words, words_needed, wi
 use Rattle.hops.specs.Records.{record_of, with_records}
 use Rattle.hops.specs.Records.{hop_at, filled}
 use Rattle.hops.specs.declared.Hop.{Hop}
-use Rattle.hops.proofs.Bounds.{AllFit, fit_append, entries_fit, entries_few}
+use Rattle.hops.proofs.Bounds.{Fits, AllFit, fit_append, entries_fit, entries_few}
 use Rattle.tables.specs.declared.Stand.{Stand}
-use Rattle.tables.specs.Tables.{Fits}
 
 -- ---- a walk's hops are entries
 
