@@ -13,10 +13,9 @@ use Rattle.adapter.specs.Adapter.{AdapterRow}
 use Rattle.tables.specs.Rows.{Rows}
 use Rattle.load.specs.Loading.{loaded}
 use Rattle.load.specs.Answers.{asked_adapter}
-use Rattle.walk.specs.Walking.{Stand}
+use Rattle.tables.specs.declared.Stand.{Stand}
 use Rattle.walk.specs.Rule.{WalkRule}
 use Rattle.path.specs.Words.{words_needed, with_path}
-use Rattle.path.specs.Put.{is_path}
 use Rattle.walks.specs.Calls.{single, path_answer, walk_answer, WalkDone}
 use Rattle.discovery.specs.Answers as tunnels
 use Rattle.discoveries.specs.Calls.{DiscoverDone}
@@ -24,7 +23,7 @@ use Rattle.answers.specs.Said.{answered, padded, said, always, words_in, perhaps
 use Rattle.findings.specs.Findings.{hop_count_words}
 use Rattle.export.specs.Exported.{DumpSaid, TextSaid, WalkSaid, DiscoverSaid}
 use Rattle.export.proofs.Walks.{path_words_lem, endless_said, again_said}
-use Rattle.refusal.specs.Refusal.{outcome}
+use Rattle.refusal.specs.Refusal.{outcome, is_given}
 use Rattle.refusal.specs.declared.Refusal.{Refusal}
 
 module _ (s scratch output : List ℕ) where
@@ -56,8 +55,8 @@ text_said t output r output' a d e =
     let says = e ∙ ap (λ o. said (always one o)) d.answers in
     record { says = says; writes = d.writes; kept = λ h. d.writes ∙ text_kept (text.survey_of t) output (ap answered (sym says) ∙ h) }
 
-no_path_lem : (r : Result (Option ℕ) Refusal) → answered (said (perhaps hop_count_words (outcome r))) ≡ false → is_path r ≡ false
-unfolding answered said padded perhaps words_in hop_count_words bind is_path
+no_path_lem : (r : Result (Option ℕ) Refusal) → answered (said (perhaps hop_count_words (outcome r))) ≡ false → is_given r ≡ false
+unfolding answered said padded perhaps words_in hop_count_words bind is_given
 no_path_lem (Ok (Some n)) h = absurd (true≢false h)
 no_path_lem (Ok None) h = refl
 no_path_lem (Err e) h = refl
@@ -80,8 +79,8 @@ module _ (t v : List ℕ) (s : Stand) (output : List ℕ) (r : Result (Option �
         again = λ x y l k. again_said (words_needed single) (length output) x s (λ hs. output' ≡ with_path single hs output) (walk_answer t v s (length output)) a counted (rule x y l k);
       }
 
-no_list : (r : Result (Option ℕ) Refusal) → answered (said (perhaps one (outcome r))) ≡ false → tunnels.is_list r ≡ false
-unfolding answered said padded perhaps words_in one bind tunnels.is_list
+no_list : (r : Result (Option ℕ) Refusal) → answered (said (perhaps one (outcome r))) ≡ false → is_given r ≡ false
+unfolding answered said padded perhaps words_in one bind is_given
 no_list (Ok (Some n)) h = absurd (true≢false h)
 no_list (Ok None) h = refl
 no_list (Err e) h = refl

@@ -12,7 +12,8 @@ use borrow.Author.Tests.{lt-ltb, ltb-false}
 use Rattle.refusal.specs.Outcome.{Outcome, refused, value, bind}
 use Rattle.tables.specs.Rows.{EntryRow, Rows}
 use Rattle.orbit.specs.Walk.{Spot, Spot.stand, Spot.ended, Spot.stopped, going, walk_n, hops_n, Never, Again}
-use Rattle.walk.specs.Walking.{Stand, End, End.path, End.no_path, End.fault, walk_on, path_of}
+use Rattle.tables.specs.declared.Stand.{Stand}
+use Rattle.walk.specs.Walking.{End, End.path, End.no_path, End.fault, walk_on, path_of}
 use Rattle.walk.specs.Rule.{settled, in_room, walk_fault, WalkRule}
 use Rattle.path.specs.Words.{words_needed}
 use Rattle.path.proofs.Writing.{length_path_words}

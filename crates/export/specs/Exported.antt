@@ -8,7 +8,8 @@ use Rattle.tables.specs.Rows.{Rows}
 use Rattle.load.specs.Loading.{loaded}
 use Rattle.load.specs.Answers.{asked_adapter}
 use Rattle.orbit.specs.Walk.{Never, Again}
-use Rattle.walk.specs.Walking.{Stand, walk_on}
+use Rattle.walk.specs.Walking.{walk_on}
+use Rattle.tables.specs.declared.Stand.{Stand}
 use Rattle.walk.specs.Rule.{WalkRule}
 use Rattle.path.specs.Words.{words_needed, with_path, output_by}
 use Rattle.walks.specs.Calls.{single, path_answer, walk_answer}

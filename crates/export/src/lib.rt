@@ -17,6 +17,7 @@ ghost use Rattle.replies.specs.Replies.{counts_words, info_words, speed_words};
 ghost use Rattle.export.specs.Exported.{DumpSaid, TextSaid, WalkSaid, DiscoverSaid};
 
 use naming::Sought;
+use tables::Stand;
 
 // A hex number of 16, 32 or 64 bits: its value, or none.
 #[unsafe(no_mangle)]

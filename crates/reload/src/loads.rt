@@ -6,6 +6,7 @@ use acceptance::Acceptance;
 use adapter::{EntryOut, Part};
 use adapters::AdapterInfo;
 use devices::DeviceInfo;
+use tables::Stand;
 
 // Two numbers as one value; more than any value where the second has no room.
 fn pair(first: usize, second: usize, unit: usize) -> [u32; 1] {
