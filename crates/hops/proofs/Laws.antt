@@ -25,7 +25,6 @@ use Rattle.walks.specs.Calls.{single, path_answer, walk_answer, WalkDone}
 use Rattle.hops.specs.Records.{records_needed, with_records, records_by}
 use Rattle.hops.specs.Calls.{hops_answer, HopsDone}
 use Rattle.hops.specs.Records.{filled}
-use Rattle.hops.specs.Work.{Ready}
 use Rattle.hops.specs.declared.Hop.{Hop}
 use Rattle.hops.proofs.Words.{Path, walk_path, filled_path}
 use Rattle.refusal.specs.Refusal.{outcome, is_given}
@@ -178,54 +177,43 @@ module _ (t v : List ℕ) (s : Stand) (out : List ℕ) (r : Result (Option ℕ) 
         ap (λ (ws : List ℕ). filled ws n records) words_told ∙ ap (λ (m : ℕ). filled (with_path single path_told.0 out) m records) (sym path_told.2)
         ∙ filled_path single path_told.0 out records (path_of_lem t v s path_told.0 path_told.1).fit (omega (arith, path_told.2))
 
-    pub ready_path : (room : ℕ) → n ≤ room → Ready t v s room (Ok (Some n)) n out'
+    pub done_path : (records : List Hop) → n ≤ length records → HopsDone t v s records r (filled out' n records)
     unfolding hops_answer is_given
-    ready_path room l = record {
-      fits = l;
-      done = λ records e. done records (Ok (Some n)) (filled out' n records)
-          (ap (λ (m : ℕ). value (Some m)) (sym path_told.2) ∙ sym (in_records (length records) path_told.0 (omega (arith, path_told.2))) ∙ sym (ap (λ (o : Outcome (Option (List EntryRow))). bind o (in_room records_needed (length records))) path_told.1))
-          (path_filled records (omega arith) ∙ sym (by_records path_told.0 records (omega (arith, path_told.2))) ∙ sym (ap (λ (o : Outcome (Option (List EntryRow))). records_by o records) path_told.1))
-          (λ q. absurd (true≢false q));
-    }
+    done_path records l = subst (λ (a : Result (Option ℕ) Refusal). HopsDone t v s records a (filled out' n records)) (sym g) (done records (Ok (Some n)) (filled out' n records)
+        (ap (λ (m : ℕ). value (Some m)) (sym path_told.2) ∙ sym (in_records (length records) path_told.0 (omega (arith, path_told.2))) ∙ sym (ap (λ (o : Outcome (Option (List EntryRow))). bind o (in_room records_needed (length records))) path_told.1))
+        (path_filled records l ∙ sym (by_records path_told.0 records (omega (arith, path_told.2))) ∙ sym (ap (λ (o : Outcome (Option (List EntryRow))). records_by o records) path_told.1))
+        (λ q. absurd (true≢false q)))
 
-    pub ready_short : (room : ℕ) → room < n → Ready t v s room (Err (refusal.Short n)) 0 out'
-    unfolding hops_answer filled
-    ready_short room l = record {
-      fits = omega arith;
-      done = λ records e. done records (Err (refusal.Short n)) records
-          (ap (λ (m : ℕ). refused 2 (m ∷ [])) (sym path_told.2) ∙ sym (past_records (length records) path_told.0 (omega (arith, path_told.2))) ∙ sym (ap (λ (o : Outcome (Option (List EntryRow))). bind o (in_room records_needed (length records))) path_told.1))
-          (sym (by_none path_told.0 records (omega (arith, path_told.2))) ∙ sym (ap (λ (o : Outcome (Option (List EntryRow))). records_by o records) path_told.1))
-          (λ q. refl);
-    }
+    pub done_short : (records : List Hop) → length records < n → HopsDone t v s records (Err (refusal.Short n)) records
+    unfolding hops_answer
+    done_short records l = done records (Err (refusal.Short n)) records
+        (ap (λ (m : ℕ). refused 2 (m ∷ [])) (sym path_told.2) ∙ sym (past_records (length records) path_told.0 (omega (arith, path_told.2))) ∙ sym (ap (λ (o : Outcome (Option (List EntryRow))). bind o (in_room records_needed (length records))) path_told.1))
+        (sym (by_none path_told.0 records (omega (arith, path_told.2))) ∙ sym (ap (λ (o : Outcome (Option (List EntryRow))). records_by o records) path_told.1))
+        (λ q. refl)
 
-  -- no path, and a refusal: so the call answers too, for the core has words for every path
-  pub ready_absent : r ≡ (Ok None) → (room : ℕ) → Ready t v s room (Ok None) 0 out'
-  unfolding walk_answer hops_answer filled records_by bind in_room
-  ready_absent g room = record {
-    fits = omega arith;
-    done = λ records e. done records (Ok None) records
-        (sym (ap (λ (o : Outcome (Option (List EntryRow))). bind o (in_room records_needed (length records))) q))
-        (sym (ap (λ (o : Outcome (Option (List EntryRow))). records_by o records) q))
-        (λ z. refl);
-  }
-    where
-      q : path_answer t v s ≡ value None
-      q = room_none (words_needed single) (length out) (path_answer t v s) (sym w.answers ∙ ap outcome g)
+  -- what is no path: so the call answers too, for the core has words for every path
+  absent : r ≡ Ok None → path_answer t v s ≡ value None
+  unfolding walk_answer
+  absent g = room_none (words_needed single) (length out) (path_answer t v s) (sym w.answers ∙ ap outcome g)
 
-  refuses : length out ≡ 8193 → (room : ℕ) (a : Result (Option ℕ) Refusal) (k : ℕ) (vs : List ℕ) → outcome r ≡ refused k vs → outcome a ≡ refused k vs → Ready t v s room a 0 out'
-  unfolding walk_answer hops_answer filled records_by bind in_room
-  refuses big room a k vs f h = record {
-    fits = omega arith;
-    done = λ records e. done records a records
-        (h ∙ sym (ap (λ (o : Outcome (Option (List EntryRow))). bind o (in_room records_needed (length records))) q))
-        (sym (ap (λ (o : Outcome (Option (List EntryRow))). records_by o records) q))
-        (λ z. refl);
-  }
-    where
-      q : path_answer t v s ≡ refused k vs
-      q = room_refused (words_needed single) (length out) k vs (path_answer t v s)
-          (λ hs p. le-ltb (length out) (words_needed single hs) (omega (arith, length_path_words single hs, (path_of_lem t v s hs p).few)))
-          (sym w.answers ∙ f)
+  gone : length out ≡ 8193 → (k : ℕ) (vs : List ℕ) → outcome r ≡ refused k vs → path_answer t v s ≡ refused k vs
+  unfolding walk_answer
+  gone big k vs f = room_refused (words_needed single) (length out) k vs (path_answer t v s)
+      (λ hs p. le-ltb (length out) (words_needed single hs) (omega (arith, length_path_words single hs, (path_of_lem t v s hs p).few)))
+      (sym w.answers ∙ f)
 
-  pub ready_refused : length out ≡ 8193 → (x : Refusal) → r ≡ Err x → (room : ℕ) → Ready t v s room (Err x) 0 out'
-  ready_refused big x g room = let z = refused_as_lem (refused_by x) x refl in refuses big room (Err x) z.0 z.1 (ap outcome g ∙ z.2) z.2
+  no_path : (o : Outcome (Option (List EntryRow))) (a : Outcome (Option ℕ)) (records : List Hop) → path_answer t v s ≡ o → bind o (in_room records_needed (length records)) ≡ a → outcome r ≡ a → records_by o records ≡ records → HopsDone t v s records r records
+  unfolding hops_answer
+  no_path o a records q b f k = done records r records
+      (f ∙ sym b ∙ sym (ap (λ (z : Outcome (Option (List EntryRow))). bind z (in_room records_needed (length records))) q))
+      (sym k ∙ sym (ap (λ (z : Outcome (Option (List EntryRow))). records_by z records) q))
+      (λ z. refl)
+
+  pub done_absent : (records : List Hop) → r ≡ Ok None → HopsDone t v s records r records
+  unfolding records_by bind in_room
+  done_absent records g = no_path (value None) (value None) records (absent g) refl (ap outcome g) refl
+
+  pub done_refused : length out ≡ 8193 → (records : List Hop) (x : Refusal) → r ≡ Err x → HopsDone t v s records r records
+  unfolding records_by bind in_room
+  done_refused big records x g = let z = refused_as_lem (refused_by x) x refl in
+      no_path (refused z.0 z.1) (refused z.0 z.1) records (gone big z.0 z.1 (ap outcome g ∙ z.2)) refl (ap outcome g ∙ z.2) refl

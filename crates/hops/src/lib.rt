@@ -4,7 +4,6 @@
 ghost use Rattle.std.specs.Prelude.{◌≡◌, ◌/◌, ◌-◌, ◌≤◌, ◌<◌, ◌^◌, length};
 ghost use Rattle.hops.specs.Calls.{HopsDone};
 ghost use Rattle.hops.specs.Records.{hop_at, filled};
-ghost use Rattle.hops.specs.Work.{Ready};
 
 use refusal::Refusal;
 use tables::Stand;
@@ -17,14 +16,6 @@ pub struct Hop {
     pub in_hop: u16,
     pub out_adapter: u8,
     pub out_hop: u16,
-}
-
-// A walk's answer for a list of records, how many of them are written, and the core's words: no path has more than 4,096 hops.
-#[derive(Drop)]
-struct Walked {
-    answer: Result<Option<usize>, Refusal>,
-    count: usize,
-    words: [u32; 8193],
 }
 
 // The place in a hop's first word.
@@ -64,41 +55,7 @@ fn fill(words: &[u32], records: &mut [Hop], n: usize)
     }
 }
 
-// The core's walk, and what it comes to for so many records. It is never short of words; its other refusals are the call's.
-fn walk_for(descriptions: &[u32], survey: &[u32], stand: Stand, room: usize) -> Walked
-    ensures { Ready descriptions.now survey.now stand room result.answer result.count result.words }
-{
-    let mut words = [0; 8193];
-    let walked = walks::discover_path(descriptions, survey, stand, &mut words);
-    match walked {
-        Ok(Some(n)) => {
-            if room < n {
-                return Walked {
-                    answer: Err(Refusal::Short(n)),
-                    count: 0,
-                    words,
-                };
-            }
-            Walked {
-                answer: Ok(Some(n)),
-                count: n,
-                words,
-            }
-        }
-        Ok(None) => Walked {
-            answer: Ok(None),
-            count: 0,
-            words,
-        },
-        Err(refusal) => Walked {
-            answer: Err(refusal),
-            count: 0,
-            words,
-        },
-    }
-}
-
-// The walk's hops as records, as the single walk else, but that 2 gives the records needed; records past them are as they were.
+// The walk's hops as records, as the single walk else, but that 2 gives the records needed; records past them are as they were. The core's words have room for any path: none has more than 4,096 hops.
 pub fn hop_records(
     descriptions: &[u32],
     survey: &[u32],
@@ -107,8 +64,17 @@ pub fn hop_records(
 ) -> Result<Option<usize>, Refusal>
     ensures { HopsDone descriptions.now survey.now stand records.old result records.new }
 {
-    let walked = walk_for(descriptions, survey, stand, records.len());
-    let words = walked.words;
-    fill(&words, records, walked.count);
-    walked.answer
+    let mut words = [0; 8193];
+    let walked = walks::discover_path(descriptions, survey, stand, &mut words);
+    match walked {
+        Ok(Some(n)) => {
+            if records.len() < n {
+                return Err(Refusal::Short(n));
+            }
+            fill(&words, records, n);
+            walked
+        }
+        Ok(None) => walked,
+        Err(_) => walked,
+    }
 }
