@@ -1,7 +1,7 @@
 -- What opening a text answers: the rows that it loads to, with the number of all tunnels, or the refusal that the program prints. Assumes nothing.
 use Rattle.std.specs.Prelude.{ℕ, ◌≡◌, List, Result, Ok, Err}
 use Rattle.refusal.specs.Outcome.{Outcome, value, bind}
-use Rattle.refusal.specs.Refusal.{refused_by}
+use Rattle.refusal.specs.Refusal.{refused_by, outcome}
 use Rattle.refusal.specs.declared.Refusal.{Refusal}
 use Rattle.tables.specs.Rows.{Rows}
 use Rattle.report.specs.Report.{answers_of, total_of}
@@ -24,6 +24,12 @@ unfoldable pub found_by : Outcome Rows → Result ℕ Refusal → Outcome Found
 found_by o (Ok n) = bind o (λ x. value (record { rows = x; tunnels = n }))
 found_by o (Err r) = refused_by r
 
+-- how many tunnels were found, or the refusal
+unfoldable pub tunnels_of : Outcome Found → Outcome ℕ
+tunnels_of o = bind o (λ f. value f.tunnels)
+
 -- the whole outcome of the call
 pub record Opens (t : List ℕ) (o : Opened) : Type 0 where
+  -- the answer alone: a number is answered only where there are rows
+  pub says : outcome o.answer ≡ tunnels_of (open_of t)
   pub answers : found_by o.loaded o.answer ≡ open_of t

@@ -1,9 +1,8 @@
 // What the program does between reading a text and writing lines.
 #![tactic(auto)]
 
-ghost use Rattle.std.specs.Prelude.{◌≡◌};
-ghost use Rattle.program.specs.Opened.{found_in, found_by, Opens};
-ghost use Rattle.program.specs.Work.{Answers};
+ghost use Rattle.program.specs.Opened.{Opens};
+ghost use Rattle.program.specs.Work.{Answered, Answers};
 
 use load::Loaded;
 use refusal::Refusal;
@@ -17,7 +16,7 @@ pub struct Opened {
 
 // Tries each adapter of a survey that was loaded.
 fn try_loaded(loaded: &Loaded) -> Result<usize, Refusal>
-    ensures { found_by loaded.now result ≡ found_in loaded.now }
+    ensures { Answered loaded.now result }
 {
     let tables = loaded.tables()?;
     report::try_all(&tables)
