@@ -101,12 +101,12 @@ TABLES = [
      [("entries", whole("entries")), ("ours", micros("ours")), ("our reading", micros("ours_reading")), ("Rust", micros("rust")), ("its reading", micros("rust_reading")), ("files", micros("making"))],
      [("ours/Rust", ALL), ("with reading/Rust", WITH_READING), ("ours/rest", REST)], "ours"),
     ("walks", "Walks",
-     "`walk::tally` on loaded tables, which answers a path's number of hops and where it ends, and the Rust's `discover_path`, which makes the list of hops. "
-     "`entries` are those of the survey, which ours searches by halves; `there` are those of the first adapter, which the Rust looks through one after another. A call does sixteen walks, on both sides. Nanoseconds a walk.",
+     "`walk::tally` on a loaded survey, which answers a path's number of hops and where it ends, and the Rust's `discover_path`, which makes the list of hops. "
+     "`entries` are those of the survey, which ours searches by halves; `there` are those of the first adapter, which the Rust looks through one after another. A call does so many walks that its loading is little beside them, and its time without walks is taken off; the same on both sides. Nanoseconds a walk.",
      "walk", "hops",
      [("entries", whole("entries")), ("there", whole("there")), ("ours", nanos("ours")), ("Rust", nanos("rust"))], [("ours/Rust", ALL)], "ours"),
     ("sparse", "Discovery: sparse DMA",
-     "`discovery::discover_in` on loaded tables, which writes the tunnels from an adapter as words, and the Rust's `Tunnel::discover`, which makes the list of tunnels. "
+     "`discovery::discover_in` on a loaded survey, which writes the tunnels from an adapter as words, and the Rust's `Tunnel::discover`, which makes the list of tunnels. "
      "Here from a host interface, with a lane that has as many HopIDs as there are rings, and few or no entries. Microseconds.",
      "from", "rings",
      [("devices", whole("devices")), ("entries", whole("entries")), ("tunnels", whole("tunnels")), ("ours", micros("ours")), ("Rust", micros("rust"))], [("ours/Rust", ALL)], "ours"),

@@ -1,4 +1,4 @@
-//! Discovery on loaded tables: the proved `discovery::discover_in`, and the Rust's `Tunnel::discover` on the same devices.
+//! Discovery on a loaded survey: the proved `discovery::discover_in`, and the Rust's `Tunnel::discover` on the same devices.
 
 use std::cell::RefCell;
 use std::hint::black_box;
@@ -6,26 +6,21 @@ use std::hint::black_box;
 use tbtools::Device;
 use tbtools::tunnel::Tunnel;
 
-use crate::row;
+use crate::loading::accepted;
 use crate::surveys::{Adapter, DP_IN, DP_OUT, HOST, PCIE_DOWN, PCIE_UP, Paths, Register, Router, USB3_DOWN, USB3_UP};
 use crate::surveys::{basic, dumps, lane, leads, loaded, make, protocol, router, words, xdomain};
-use crate::walking::Tables;
+use crate::{Many, row_of_many};
 
 #[link(name = "discovering", kind = "static")]
 unsafe extern "C" {
     fn discover_on(
-        entries: *const u64,
-        entry_count: usize,
-        adapters: *const u64,
-        adapter_count: usize,
-        routes: *const u64,
-        route_count: usize,
-        marks: *const u64,
-        mark_count: usize,
+        survey: *const u32,
+        words: usize,
         place: usize,
         adapter: u8,
         output: *mut u32,
         room: usize,
+        times: usize,
     ) -> usize;
 }
 
@@ -81,7 +76,7 @@ fn deep(depth: u32, kinds: [u32; 2], down: &[(u32, u32)], up: &[(u32, u32)]) -> 
 
 /// The tunnels from adapter 2 of the first device, on both sides.
 struct Source {
-    tables: Tables,
+    survey: Vec<u32>,
     devices: Vec<Device>,
     output: RefCell<Vec<u32>>,
 }
@@ -90,30 +85,20 @@ impl Source {
     fn new(name: &str, routers: &[Router]) -> Self {
         make(&dumps(name, routers));
         let output = RefCell::new(vec![0; ROOM]);
-        let source = Source { tables: Tables::of(&words(routers)), devices: loaded(name, routers), output };
+        let source = Source { survey: words(routers), devices: loaded(name, routers), output };
         assert_eq!(source.shape(), source.expected(), "not what the Rust finds");
         source
     }
 
-    fn ours(&self) -> usize {
-        let t = &self.tables;
+    /// How many words, discovered so many times.
+    fn ours(&self, times: usize) -> usize {
         let mut output = self.output.borrow_mut();
-        unsafe {
-            discover_on(
-                t.entries.as_ptr(),
-                t.entries.len(),
-                t.adapters.as_ptr(),
-                t.adapters.len(),
-                t.routes.as_ptr(),
-                t.routes.len(),
-                t.marks.as_ptr(),
-                t.marks.len(),
-                black_box(0),
-                black_box(2),
-                output.as_mut_ptr(),
-                output.len(),
-            )
-        }
+        let (survey, place, adapter) = (&self.survey, black_box(0), black_box(2));
+        unsafe { discover_on(survey.as_ptr(), survey.len(), place, adapter, output.as_mut_ptr(), output.len(), times) }
+    }
+
+    fn theirs(&self, times: usize) -> usize {
+        (0..times).map(|_| black_box(self.its_tunnels()).len()).max().unwrap_or(0)
     }
 
     fn its_tunnels(&self) -> Vec<Tunnel<'_>> {
@@ -123,7 +108,7 @@ impl Source {
 
     /// The number of hops of each path, tunnel by tunnel, by the words.
     fn shape(&self) -> Vec<Vec<usize>> {
-        let count = self.ours();
+        let count = self.ours(1);
         let output = self.output.borrow();
         let (mut at, mut found) = (0, Vec::new());
         while at < count {
@@ -152,12 +137,12 @@ pub fn run(rounds: usize) {
         let source = Source::new("f", routers);
         let numbers = [
             ("devices", source.devices.len()),
-            ("entries", source.tables.entries.len()),
+            ("entries", accepted(&source.survey) & 65535),
             ("tunnels", source.shape().len()),
-            ("words", source.ours()),
+            ("words", source.ours(1)),
         ];
-        let calls: [crate::Call; 2] = [("ours", &|| source.ours()), ("rust", &|| source.its_tunnels().len())];
-        row(rounds, table, series, size as usize, &numbers, &calls);
+        let calls: [Many; 2] = [("ours", &|times| source.ours(times)), ("rust", &|times| source.theirs(times))];
+        row_of_many(rounds, table, series, size as usize, &numbers, &calls);
     };
     for n in (4..=10).map(|n| 1 << n) {
         time("sparse", "no entries", n, &rings(n, &[], 1));

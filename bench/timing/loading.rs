@@ -16,7 +16,7 @@ unsafe extern "C" {
 
 const SIZES: [usize; 5] = [1024, 2048, 4096, 8192, 16384];
 
-fn accepted(survey: &[u32]) -> usize {
+pub fn accepted(survey: &[u32]) -> usize {
     unsafe { accepted_under_ours(black_box(survey.as_ptr()), survey.len()) }
 }
 

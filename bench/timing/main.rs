@@ -41,14 +41,51 @@ fn best(rounds: usize, calls: &[Call]) -> Vec<f64> {
 
 /// Writes a row: its table, its series, its size, numbers that say more of it, and the times of the calls.
 pub fn row(rounds: usize, table: &str, series: &str, size: usize, numbers: &[(&str, usize)], calls: &[Call]) {
-    row_of(1, rounds, table, series, size, numbers, calls)
+    let names: Vec<&str> = calls.iter().map(|(name, _)| *name).collect();
+    write(table, series, size, numbers, &names, &best(rounds, calls));
 }
 
-/// The same of calls that each do so many things: the time of one.
-pub fn row_of(times: usize, rounds: usize, table: &str, series: &str, size: usize, numbers: &[(&str, usize)], calls: &[Call]) {
+/// A call that does so many times what is timed, after what it does once.
+pub type Many<'a> = (&'a str, &'a dyn Fn(usize) -> usize);
+
+/// The same of calls that do so many times what is timed: the time of one, without what they do once.
+pub fn row_of_many(rounds: usize, table: &str, series: &str, size: usize, numbers: &[(&str, usize)], calls: &[Many]) {
+    let times: Vec<usize> = calls.iter().map(|(_, call)| enough(*call)).collect();
+    let timed = |i: usize, n: usize| {
+        let start = Instant::now();
+        black_box((calls[i].1)(n));
+        start.elapsed().as_secs_f64() * 1e6
+    };
+    let [mut once, mut all] = [(); 2].map(|_| vec![f64::MAX; calls.len()]);
+    let round: f64 = (0..calls.len()).map(|i| timed(i, times[i])).sum();
+    for _ in 0..rounds.min(((ROW / round) as usize).max(3)) {
+        for i in 0..calls.len() {
+            once[i] = once[i].min(timed(i, 0));
+            all[i] = all[i].min(timed(i, times[i]));
+        }
+    }
+    let each: Vec<f64> = (0..calls.len()).map(|i| (all[i] - once[i]).max(0.0) / times[i] as f64).collect();
+    let names: Vec<&str> = calls.iter().map(|(name, _)| *name).collect();
+    write(table, series, size, numbers, &names, &each);
+}
+
+/// How many times take twenty batches, so that what a call does once, as loading, is little beside them.
+fn enough(call: &dyn Fn(usize) -> usize) -> usize {
+    let mut times = 1;
+    loop {
+        let start = Instant::now();
+        black_box(call(times));
+        if start.elapsed().as_secs_f64() * 1e6 >= 20.0 * BATCH {
+            return times;
+        }
+        times *= 2;
+    }
+}
+
+fn write(table: &str, series: &str, size: usize, numbers: &[(&str, usize)], names: &[&str], times: &[f64]) {
     print!("{table}\t{series}\t{size}");
     numbers.iter().for_each(|(name, n)| print!("\t{name}={n}"));
-    calls.iter().zip(best(rounds, calls)).for_each(|((name, _), t)| print!("\t{name}={:.6}", t / times as f64));
+    names.iter().zip(times).for_each(|(name, t)| print!("\t{name}={t:.6}"));
     println!();
 }
 

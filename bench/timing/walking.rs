@@ -1,115 +1,25 @@
-//! Walks on loaded tables: the proved `walk::tally`, and the Rust's `discover_path` on the same devices.
+//! Walks on a loaded survey: the proved `walk::tally`, and the Rust's `discover_path` on the same devices.
 
 use std::hint::black_box;
 
 use tbtools::tunnel::{self, Tunnel};
 use tbtools::{Device, debugfs};
 
-use crate::row_of;
+use crate::loading::accepted;
+use crate::{Many, row_of_many};
 use crate::surveys::{Router, dumps, entries, kernel, loaded, make, steps, words};
-
-#[link(name = "timing", kind = "static")]
-unsafe extern "C" {
-    fn rows_under_ours(
-        survey: *const u32,
-        words: usize,
-        entries: *mut u64,
-        entry_room: usize,
-        adapters: *mut u64,
-        adapter_room: usize,
-    ) -> usize;
-    fn devices_under_ours(
-        survey: *const u32,
-        words: usize,
-        routes: *mut u64,
-        route_room: usize,
-        marks: *mut u64,
-        mark_room: usize,
-    ) -> usize;
-}
 
 #[link(name = "discovering", kind = "static")]
 unsafe extern "C" {
-    fn walk_on(
-        entries: *const u64,
-        entry_count: usize,
-        adapters: *const u64,
-        adapter_count: usize,
-        routes: *const u64,
-        route_count: usize,
-        marks: *const u64,
-        mark_count: usize,
-        place: usize,
-        adapter: u8,
-        hop: u16,
-    ) -> u64;
-    fn walks_on(
-        entries: *const u64,
-        entry_count: usize,
-        adapters: *const u64,
-        adapter_count: usize,
-        routes: *const u64,
-        route_count: usize,
-        marks: *const u64,
-        mark_count: usize,
-        place: usize,
-        adapter: u8,
-        hop: u16,
-        times: usize,
-    ) -> usize;
+    fn walk_on(survey: *const u32, words: usize, place: usize, adapter: u8, hop: u16) -> u64;
+    fn walks_on(survey: *const u32, words: usize, place: usize, adapter: u8, hop: u16, times: usize) -> usize;
 }
-
-/// How many walks a call does, on each side: so a row is a walk's time, without the way in which another language is called.
-const WALKS: usize = 16;
 
 // ---- both sides ---------------------------------------------------------------------------
 
-pub struct Tables {
-    pub entries: Vec<u64>,
-    pub adapters: Vec<u64>,
-    pub routes: Vec<u64>,
-    pub marks: Vec<u64>,
-}
-
-impl Tables {
-    pub fn of(survey: &[u32]) -> Self {
-        let (p, n) = (survey.as_ptr(), survey.len());
-        let [mut entries, mut routes, mut marks] = [(); 3].map(|_| vec![0; 4096]);
-        let mut adapters = vec![0; 16384];
-        let (e, a) = (entries.as_mut_ptr(), adapters.as_mut_ptr());
-        let rows = unsafe { rows_under_ours(p, n, e, entries.len(), a, adapters.len()) };
-        let (r, m) = (routes.as_mut_ptr(), marks.as_mut_ptr());
-        let devices = unsafe { devices_under_ours(p, n, r, routes.len(), m, marks.len()) };
-        assert!(devices < 65536, "refused");
-        entries.truncate(rows >> 16);
-        adapters.truncate(rows & 65535);
-        routes.truncate(devices);
-        marks.truncate(devices);
-        Tables { entries, adapters, routes, marks }
-    }
-
-    fn walk(&self, place: usize, adapter: u8, hop: u16) -> u64 {
-        unsafe {
-            walk_on(
-                self.entries.as_ptr(),
-                self.entries.len(),
-                self.adapters.as_ptr(),
-                self.adapters.len(),
-                self.routes.as_ptr(),
-                self.routes.len(),
-                self.marks.as_ptr(),
-                self.marks.len(),
-                black_box(place),
-                black_box(adapter),
-                black_box(hop),
-            )
-        }
-    }
-}
-
 /// One start, on both sides.
 struct Start {
-    tables: Tables,
+    survey: Vec<u32>,
     devices: Vec<Device>,
     place: usize,
     adapter: u8,
@@ -119,35 +29,20 @@ struct Start {
 impl Start {
     fn new(name: &str, routers: &[Router], place: usize, adapter: u8, hop: u16) -> Self {
         make(&dumps(name, routers));
-        let start = Start { tables: Tables::of(&words(routers)), devices: loaded(name, routers), place, adapter, hop };
+        let start = Start { survey: words(routers), devices: loaded(name, routers), place, adapter, hop };
         assert_eq!(start.ours(), start.expected(), "not where the Rust comes");
-        assert_eq!(start.most() as u64, start.ours() >> 48, "not so many hops");
+        assert_eq!(start.most(1) as u64, start.ours() >> 48, "not so many hops");
         start
     }
 
     fn ours(&self) -> u64 {
-        self.tables.walk(self.place, self.adapter, self.hop)
+        unsafe { walk_on(self.survey.as_ptr(), self.survey.len(), self.place, self.adapter, self.hop) }
     }
 
-    /// The most hops of the walks.
-    fn most(&self) -> usize {
-        let t = &self.tables;
-        unsafe {
-            walks_on(
-                t.entries.as_ptr(),
-                t.entries.len(),
-                t.adapters.as_ptr(),
-                t.adapters.len(),
-                t.routes.as_ptr(),
-                t.routes.len(),
-                t.marks.as_ptr(),
-                t.marks.len(),
-                black_box(self.place),
-                black_box(self.adapter),
-                black_box(self.hop),
-                WALKS,
-            )
-        }
+    /// The most hops of so many walks. The start is handed over once for all of them.
+    fn most(&self, times: usize) -> usize {
+        let (place, adapter, hop) = (black_box(self.place), black_box(self.adapter), black_box(self.hop));
+        unsafe { walks_on(self.survey.as_ptr(), self.survey.len(), place, adapter, hop, times) }
     }
 
     /// The Rust's adapter, which its walk is given.
@@ -159,10 +54,10 @@ impl Start {
         Tunnel::discover_path("walk", device, adapter, hop, &self.devices)
     }
 
-    /// As `most`: the start is handed over once for all walks.
-    fn its_most(&self, adapter: &debugfs::Adapter) -> usize {
+    /// As `most`.
+    fn its_most(&self, adapter: &debugfs::Adapter, times: usize) -> usize {
         let (device, adapter, hop) = (black_box(&self.devices[self.place]), black_box(adapter), black_box(self.hop));
-        (0..WALKS).map(|_| self.its_path(device, adapter, hop).map_or(0, |p| p.hops().len())).max().unwrap()
+        (0..times).map(|_| self.its_path(device, adapter, hop).map_or(0, |p| p.hops().len())).max().unwrap_or(0)
     }
 
     /// The Rust's answer, as `walk_on` gives it.
@@ -181,15 +76,9 @@ pub fn run(rounds: usize) {
     let time = |series: &str, size: usize, start: &Start| {
         let adapter = start.its_adapter();
         let there = adapter.paths().map_or(0, |p| p.len());
-        row_of(
-            WALKS,
-            rounds,
-            "walks",
-            series,
-            size,
-            &[("hops", (start.ours() >> 48) as usize), ("entries", start.tables.entries.len()), ("there", there)],
-            &[("ours", &|| start.most()), ("rust", &|| start.its_most(adapter))],
-        );
+        let numbers = [("hops", (start.ours() >> 48) as usize), ("entries", accepted(&start.survey) & 65535), ("there", there)];
+        let calls: [Many; 2] = [("ours", &|times| start.most(times)), ("rust", &|times| start.its_most(adapter, times))];
+        row_of_many(rounds, "walks", series, size, &numbers, &calls);
     };
     let none: [(&str, Vec<Router>, u8, u16); 4] = [
         ("no hop: two routers", steps(4), 1, 100),

@@ -12,7 +12,7 @@ use lib.ListN.{length, get_or-eq_default}
 use borrow.Author.Tests.{lt-ltb, le-ltb, le-leb, lt-leb, eq-eqb, ne_eqb}
 use Rattle.refusal.proofs.Laws.{fault_bind}
 use Rattle.refusal.specs.Outcome.{value, bind}
-use Rattle.refusal.specs.Refusal.{refusal_of, fault_outcome, field_at}
+use Rattle.refusal.specs.Refusal.{refusal_of, fault_outcome, field_at, field_read}
 use Rattle.refusal.specs.declared.Site.{Site}
 use Rattle.refusal.specs.declared.Fault.{Fault}
 use Rattle.refusal.specs.declared.Fault.TheVariants.{FewRegisters}
@@ -22,23 +22,19 @@ use denote.Enum.Bare.{sameb}
 use Rattle.usb4.proofs.Laws as usb4
 use Rattle.usb4.specs.contracts.AdapterType.{the_type}
 use Rattle.usb4.specs.Codes.{type_of}
-use Rattle.usb4.specs.Numbers.{type_number}
 use Rattle.usb4.specs.declared.AdapterType.{AdapterType}
 use Rattle.usb4.specs.declared.AdapterType.TheVariants as type
 use Rattle.usb4.specs.declared.State.{State}
 use Rattle.layout.specs.Layout.{word}
 use Rattle.layout.specs.Description.{Description, described}
-use Rattle.fields.specs.Names.{find_field}
-use Rattle.metadata.specs.Calls.{value_in}
 use Rattle.register.specs.Line.{register_of}
 use Rattle.register.specs.declared.Register.{Register}
 use Rattle.survey.specs.Devices.{Adapter, register_in}
 use Rattle.listing.specs.After.{after, listed, register_at, adapter_at, NextRegister}
 use Rattle.listing.proofs.Laws.{after_end, register_end}
-use Rattle.named.specs.Named.{Named, adapter_space, by_name, sited, wanted_field, named_at, named_in}
-use Rattle.refusal.specs.Refusal.{field_read, fault_outcome, field_at}
+use Rattle.named.specs.Named.{Named, sited, wanted_field, named_at, read_field}
 use Rattle.named.specs.declared.NamedAt.{NamedAt}
-use Rattle.state.specs.State.{state_of, link_speed, of_kind}
+use Rattle.state.specs.State.{state_of, link_speed}
 use Rattle.adapter.specs.Adapter.{third_value, kind_of, registers_of, indices_from, last_of, between, find_cap, is_lane, cap_usb4, is_lane0, lane0_of, lane1_of, narrow, max_hop_in, max_hop, parse_state, AdapterRow, adapter_site, few_registers, row_of, decode_of, facts_row, decoded_outcome}
 use Rattle.adapter.specs.declared.Part.{Part}
 use Rattle.adapter.specs.Work.{ThirdOf, KindIs, row_by}
@@ -325,13 +321,11 @@ module _ (s : Site) (t v : List ℕ) (o : Option Named) (f : Option NamedAt) (e 
   unfolding max_hop_in named_at
   most_none k = ap (λ z. max_hop_in s z) (sym (ap (λ z. named_at t v z) k) ∙ e)
 
-  module _ (i g : ℕ) (k : f ≡ named_in i g) (w : ℕ) (q : w ≡ word v (i + 3))
-      (r : Result ℕ FieldError) (h : field_read r ≡ value_in w (find_field (bytes_of "Max Input HopID") (described t g).fields)) where
+  module _ (a : NamedAt) (k : f ≡ Some a) (r : Result ℕ FieldError)
+      (h : field_read r ≡ read_field (record { register = register_at v a.register; description = described t a.group }) (bytes_of "Max Input HopID")) where
     most_by : max_hop_in s o ≡ bind (sited s (field_read r)) (λ m. value (narrow m))
-    unfolding max_hop_in wanted_field named_at register_at register_in register_of
-    most_by =
-        ap (λ z. max_hop_in s z) (sym e ∙ ap (λ z. named_at t v z) k)
-        ∙ ap (λ z. bind (sited s z) (λ m. value (narrow m))) (sym (h ∙ ap (λ z. value_in z (find_field (bytes_of "Max Input HopID") (described t g).fields)) q))
+    unfolding max_hop_in wanted_field named_at
+    most_by = ap (λ z. max_hop_in s z) (sym e ∙ ap (λ z. named_at t v z) k) ∙ ap (λ z. bind (sited s z) (λ m. value (narrow m))) (sym h)
 
     pub most_lacks : r ≡ (Err field.NoField) → field_at s (Err field.NoField) ≡ max_hop_in s o
     unfolding sited bind refusal_of

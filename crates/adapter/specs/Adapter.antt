@@ -1,9 +1,9 @@
 -- Document 01, module 5: an adapter's kind, lanes, capabilities and hop range, and what it is loaded to. Assumes nothing.
-use Rattle.std.specs.Prelude.{is_some, ℕ, suc, Bool, true, false, cond, not, ◌&&◌, ◌||◌, List, [], ◌∷◌, ltb, leb, eqb, length, Option, None, Some, Err, Ok, Result}
+use Rattle.std.specs.Prelude.{is_some, ℕ, suc, Bool, cond, not, ◌&&◌, ◌||◌, List, [], ◌∷◌, ltb, leb, eqb, length, Option, None, Some, Err, Ok, Result}
 use Rattle.refusal.specs.Outcome.{Outcome, value, bind}
 use Rattle.refusal.specs.Refusal.{refusal_of, field_at}
 use Rattle.refusal.specs.declared.Site.{Site}
-use Rattle.refusal.specs.declared.Fault.TheVariants.{FewRegisters, NoField}
+use Rattle.refusal.specs.declared.Fault.TheVariants.{FewRegisters}
 use Rattle.util.specs.Bits.{bits_of}
 use Rattle.util.specs.Text.{bytes_of}
 use Rattle.usb4.specs.Codes.{type_of}
@@ -20,8 +20,6 @@ use Rattle.state.specs.State.{of_kind, state_of, link_speed}
 use Rattle.adapter.specs.declared.Part.{Part}
 use Rattle.adapter.specs.declared.Facts.{Facts}
 use Rattle.refusal.specs.declared.Fault.{Fault}
-use Rattle.refusal.specs.declared.FieldError.{FieldError}
-use Rattle.refusal.specs.declared.FieldError.TheVariants as field
 
 -- the third of the sorted records, not the one at offset 2
 unfoldable pub third_value : List Register → ℕ

@@ -13,7 +13,6 @@ use Rattle.named.specs.Named.{path_space, named, wanted_field, wanted_flag}
 use Rattle.adapter.specs.Adapter.{kind_of, min_hop}
 use Rattle.adapter.specs.declared.EntryOut.{EntryOut}
 use Rattle.refusal.specs.declared.FieldError.{FieldError}
-use Rattle.refusal.specs.declared.FieldError.TheVariants as field
 
 -- a valid path entry: its HopID, and where it leads
 pub record PathEntry : Type 0 where
@@ -54,10 +53,11 @@ entries_by ds s k rs (Some least) = entries_from ds s k least rs
 unfoldable pub entries_of : List Description → Site → Adapter → Outcome (List PathEntry)
 entries_of ds s a = entries_by ds s (type_number (kind_of a)) a.entries (min_hop (kind_of a))
 
--- what `entry_of` answers, for a register at an offset
+-- where an entry leads
 abbrev pub entry_out : ℕ → ℕ → EntryOut
 entry_out out hop = record { out_adapter = out; out_hop = hop }
 
+-- what `entry_of` answers, for a register at an offset
 unfoldable pub entry_outcome : Site → ℕ → Result (Option EntryOut) FieldError → Outcome (Option PathEntry)
 entry_outcome s o (Ok (Some e)) = value (Some (record { in_hop = o / 2; out_adapter = e.out_adapter; out_hop = e.out_hop }))
 entry_outcome s o (Ok None) = value None

@@ -4,15 +4,14 @@
 ghost use Rattle.std.specs.Prelude.{◌≡◌, ◌&&◌, not, ℕ};
 ghost use Rattle.refusal.specs.declared.Site.{Site};
 ghost use Rattle.util.specs.Text.{bytes_of};
-ghost use Rattle.usb4.specs.Numbers.{type_number};
 ghost use Rattle.layout.specs.Description.{descriptions_of};
 ghost use Rattle.listing.specs.After.{after, adapter_at};
-ghost use Rattle.named.specs.Named.{adapter_space, named, by_name};
+ghost use Rattle.named.specs.Named.{registers_in, register_named};
 ghost use Rattle.adapter.specs.Adapter.{registers_of, find_cap, is_lane, is_lane0, max_hop_in, decode_of, decoded_outcome, facts_row};
 ghost use Rattle.adapter.specs.Work.{ThirdOf, KindIs, row_by};
 ghost use Rattle.refusal.specs.Refusal.{field_at};
 
-use named::NamedAt;
+use named::Registers;
 use refusal::{Fault, FieldError, Site};
 use usb4::{AdapterType, Speed, State};
 
@@ -142,26 +141,14 @@ fn is_lane1(kind: AdapterType, lane0: bool) -> bool
     kind == AdapterType::Lane && !lane0
 }
 
-// The largest HopID of an adapter of a kind.
-fn max_hop(
-    descriptions: &[u32],
-    survey: &[u32],
-    from: usize,
-    kind: AdapterType,
-) -> Result<Option<u32>, FieldError>
-    ensures { (s : Site) → field_at s result ≡ max_hop_in s (by_name (descriptions_of descriptions.now) adapter_space (type_number kind) (bytes_of "ADP_CS_5") (after survey.now from).registers) }
+// The largest HopID of an adapter.
+fn max_hop(registers: &Registers) -> Result<Option<u32>, FieldError>
+    ensures { (s : Site) → field_at s result ≡ max_hop_in s (register_named registers.now (bytes_of "ADP_CS_5")) }
 {
-    let Some(NamedAt { register, group }) = named::of_adapter(
-        descriptions,
-        survey,
-        from,
-        kind,
-        b"ADP_CS_5",
-    ) else {
+    let Some(at) = registers.named(b"ADP_CS_5") else {
         return Ok(None);
     };
-    let value = layout::word_at(survey, register + 3);
-    let Ok(most) = named::field_value(descriptions, group, value, b"Max Input HopID") else {
+    let Ok(most) = registers.field(at, b"Max Input HopID") else {
         return Err(FieldError::NoField);
     };
     if 65535 < most {
@@ -170,22 +157,15 @@ fn max_hop(
     Ok(Some(most))
 }
 
-// What is known of an adapter of a kind and number in a state.
-fn facts_of(
-    descriptions: &[u32],
-    survey: &[u32],
-    from: usize,
-    usb4: bool,
-    kind: AdapterType,
-    number: u8,
-    state: State,
-) -> Facts
-    ensures { (p : ℕ) → facts_row p result ≡ row_by (descriptions_of descriptions.now) p usb4 number kind (after survey.now from).registers state }
+// What is known of an adapter of a number in a state.
+fn facts_of(registers: &Registers, usb4: bool, number: u8, state: State) -> Facts
+    ensures { (p : ℕ) → facts_row p result ≡ row_by (descriptions_of registers.now.descriptions.now) p usb4 number registers.now.kind (registers_in registers.now) state }
 {
-    let lane0 = is_lane0(survey, from, usb4, kind, number);
+    let kind = registers.kind;
+    let lane0 = is_lane0(registers.survey, registers.from, usb4, kind, number);
     let lane1 = is_lane1(kind, lane0);
-    let speed = speed::link_speed(descriptions, survey, from, kind, state);
-    let max_hop = max_hop(descriptions, survey, from, kind);
+    let speed = speed::link_speed(registers, state);
+    let max_hop = max_hop(registers);
     Facts {
         number,
         kind,
@@ -215,9 +195,14 @@ pub fn decode(
     let Some(kind) = parse_kind(survey, at) else {
         return Err(Fault::FewRegisters(site));
     };
-    let from = registers_from(survey, at);
-    let state = state::parse_state(descriptions, survey, from, kind, site)?;
-    Ok(facts_of(descriptions, survey, from, usb4, kind, number, state))
+    let registers = Registers {
+        descriptions,
+        survey,
+        from: registers_from(survey, at),
+        kind,
+    };
+    let state = state::parse_state(&registers, site)?;
+    Ok(facts_of(&registers, usb4, number, state))
 }
 
 // The capability part of the adapter whose head stands at a place.

@@ -1,63 +1,37 @@
 -- Laws on whether an adapter is enabled. Assumes nothing.
-use Prim.Native.Nat.{ℕ, ◌<◌, ◌≤◌}
-use native.Mathlib.Omega.{arith}
-use mathlib.Core.Path.{◌≡◌, refl, sym, ap, ◌∙◌}
-use mathlib.Core.Bool.{Bool, true, false, ◌&&◌, ◌||◌}
+use mathlib.Core.Path.{◌≡◌, refl}
+use mathlib.Core.Bool.{true, false}
 use lib.Dec.{eqb}
-use borrow.Author.Tests.{ne_eqb}
-use Rattle.usb4.specs.Numbers.{type_number, state_number}
+use Rattle.std.specs.Prelude.{◌⊎◌}
+use Rattle.std.proofs.Common.{inl, inr}
+use Rattle.usb4.specs.Numbers.{state_number}
 use Rattle.usb4.specs.declared.AdapterType.{AdapterType}
 use Rattle.usb4.specs.declared.AdapterType.TheVariants as type
 use Rattle.usb4.specs.declared.State.{State}
 use Rattle.state.specs.State.{is_protocol, is_enabled}
 
-module _ (k : AdapterType) (st : State) where
-  pub enabled_host : type_number k ≡ 3 → true ≡ is_enabled k st
-  unfolding is_enabled
-  enabled_host e = sym (ap (λ (n : ℕ). eqb n 3 || (is_protocol k && eqb (state_number st) 2)) e)
+pub enabled_host : (k : AdapterType) (st : State) → k ≡ type.HostInterface → true ≡ is_enabled k st
+unfolding is_enabled
+enabled_host k st e = rw e refl
 
-  protocol : 3 ≤ type_number k → is_protocol k ≡ true
-  unfolding is_protocol
-  protocol = go k
-    where
-      go : (j : AdapterType) → 3 ≤ type_number j → is_protocol j ≡ true
-      go type.Unknown l = absurd (omega arith)
-      go type.Inactive l = absurd (omega arith)
-      go type.Lane l = absurd (omega arith)
-      go type.HostInterface l = refl
-      go type.DisplayPortIn l = refl
-      go type.DisplayPortOut l = refl
-      go type.PcieDown l = refl
-      go type.PcieUp l = refl
-      go type.Usb3Down l = refl
-      go type.Usb3Up l = refl
-      go type.Usb3GenTDown l = refl
-      go type.Usb3GenTUp l = refl
+pub enabled_never : (k : AdapterType) (st : State) → (k ≡ type.Unknown) ⊎ ((k ≡ type.Inactive) ⊎ (k ≡ type.Lane)) → false ≡ is_enabled k st
+unfolding is_enabled is_protocol
+enabled_never k st (inl e) = rw e refl
+enabled_never k st (inr (inl e)) = rw e refl
+enabled_never k st (inr (inr e)) = rw e refl
 
-  no_protocol : type_number k < 3 → is_protocol k ≡ false
-  unfolding is_protocol
-  no_protocol = go k
-    where
-      go : (j : AdapterType) → type_number j < 3 → is_protocol j ≡ false
-      go type.Unknown l = refl
-      go type.Inactive l = refl
-      go type.Lane l = refl
-      go type.HostInterface l = absurd (omega arith)
-      go type.DisplayPortIn l = absurd (omega arith)
-      go type.DisplayPortOut l = absurd (omega arith)
-      go type.PcieDown l = absurd (omega arith)
-      go type.PcieUp l = absurd (omega arith)
-      go type.Usb3Down l = absurd (omega arith)
-      go type.Usb3Up l = absurd (omega arith)
-      go type.Usb3GenTDown l = absurd (omega arith)
-      go type.Usb3GenTUp l = absurd (omega arith)
-
-  other : (type_number k ≡ 3 → ⊥) → is_enabled k st ≡ (is_protocol k && eqb (state_number st) 2)
-  unfolding is_enabled
-  other n = ap (λ (b : Bool). b || (is_protocol k && eqb (state_number st) 2)) (ne_eqb (type_number k) 3 n)
-
-  pub enabled_never : (type_number k ≡ 3 → ⊥) → type_number k < 3 → false ≡ is_enabled k st
-  enabled_never n l = sym (other n ∙ ap (λ (b : Bool). b && eqb (state_number st) 2) (no_protocol l))
-
-  pub enabled_state : (type_number k ≡ 3 → ⊥) → 3 ≤ type_number k → eqb (state_number st) 2 ≡ is_enabled k st
-  enabled_state n l = sym (other n ∙ ap (λ (b : Bool). b && eqb (state_number st) 2) (protocol l))
+-- another protocol adapter by its state
+pub enabled_state : (k : AdapterType) (st : State) → (k ≡ type.HostInterface → ⊥) → (k ≡ type.Unknown → ⊥) → (k ≡ type.Inactive → ⊥) → (k ≡ type.Lane → ⊥) → eqb (state_number st) 2 ≡ is_enabled k st
+unfolding is_enabled is_protocol
+enabled_state type.Unknown st h u i l = absurd (u refl)
+enabled_state type.Inactive st h u i l = absurd (i refl)
+enabled_state type.Lane st h u i l = absurd (l refl)
+enabled_state type.HostInterface st h u i l = absurd (h refl)
+enabled_state type.DisplayPortIn st h u i l = refl
+enabled_state type.DisplayPortOut st h u i l = refl
+enabled_state type.PcieDown st h u i l = refl
+enabled_state type.PcieUp st h u i l = refl
+enabled_state type.Usb3Down st h u i l = refl
+enabled_state type.Usb3Up st h u i l = refl
+enabled_state type.Usb3GenTDown st h u i l = refl
+enabled_state type.Usb3GenTUp st h u i l = refl

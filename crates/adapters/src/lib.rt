@@ -23,46 +23,33 @@ pub struct AdapterInfo {
 }
 
 // The adapter of the device at a place with a number: 3, 4, loading, 14.
-fn find_row(
-    descriptions: &[u32],
-    survey: &[u32],
-    place: usize,
-    number: u8,
-) -> Result<Facts, Refusal>
-    ensures { row_outcome place result ≡ row_answer descriptions.now survey.now place number }
+fn find_row(descriptions: &[u32], survey: &[u32], site: Site) -> Result<Facts, Refusal>
+    ensures { row_outcome site.place result ≡ row_answer descriptions.now survey.now site.place site.adapter }
 {
     let loaded = load::load(descriptions, survey);
     let tables = loaded.tables()?;
-    if tables.routes.len() <= place {
+    if tables.devices.len() <= site.place {
         return Err(Refusal::Missing);
     }
-    search::find_adapter(tables.adapters, place, number).ok_or(Refusal::Missing)
+    search::find_adapter(tables.adapters, site.place, site.adapter).ok_or(Refusal::Missing)
 }
 
 // Whether an adapter of a kind in a state is enabled: a host interface always, another protocol adapter by its state.
 fn is_enabled(kind: AdapterType, state: State) -> bool
     ensures { result ≡ is_enabled kind state }
 {
-    let code = usb4::type_number(kind);
-    if code == 3 {
-        return true;
+    match kind {
+        AdapterType::HostInterface => true,
+        AdapterType::Unknown | AdapterType::Inactive | AdapterType::Lane => false,
+        _ => state == State::Enabled,
     }
-    if code < 3 {
-        return false;
-    }
-    usb4::state_number(state) == 2
 }
 
 // Kind, state, lanes, least HopID, whether it is enabled.
-pub fn adapter(
-    descriptions: &[u32],
-    survey: &[u32],
-    place: usize,
-    number: u8,
-) -> Result<AdapterInfo, Refusal>
-    ensures { outcome result ≡ adapter_answer descriptions.now survey.now place number }
+pub fn adapter(descriptions: &[u32], survey: &[u32], site: Site) -> Result<AdapterInfo, Refusal>
+    ensures { outcome result ≡ adapter_answer descriptions.now survey.now site.place site.adapter }
 {
-    let facts = find_row(descriptions, survey, place, number)?;
+    let facts = find_row(descriptions, survey, site)?;
     let kind = facts.kind;
     let state = facts.state;
     Ok(AdapterInfo {
@@ -76,36 +63,18 @@ pub fn adapter(
 }
 
 // The link speed, or 6.
-pub fn link_speed(
-    descriptions: &[u32],
-    survey: &[u32],
-    place: usize,
-    number: u8,
-) -> Result<Speed, Refusal>
-    ensures { outcome result ≡ speed_answer descriptions.now survey.now place number }
+pub fn link_speed(descriptions: &[u32], survey: &[u32], site: Site) -> Result<Speed, Refusal>
+    ensures { outcome result ≡ speed_answer descriptions.now survey.now site.place site.adapter }
 {
-    let facts = find_row(descriptions, survey, place, number)?;
-    let site = Site {
-        place,
-        adapter: facts.number,
-    };
+    let facts = find_row(descriptions, survey, site)?;
     facts.speed.ok().ok_or(Refusal::Fault(Fault::NoField(site)))
 }
 
 // The largest HopID, or 6.
-pub fn max_hop(
-    descriptions: &[u32],
-    survey: &[u32],
-    place: usize,
-    number: u8,
-) -> Result<Option<u32>, Refusal>
-    ensures { outcome result ≡ max_hop_answer descriptions.now survey.now place number }
+pub fn max_hop(descriptions: &[u32], survey: &[u32], site: Site) -> Result<Option<u32>, Refusal>
+    ensures { outcome result ≡ max_hop_answer descriptions.now survey.now site.place site.adapter }
 {
-    let facts = find_row(descriptions, survey, place, number)?;
-    let site = Site {
-        place,
-        adapter: facts.number,
-    };
+    let facts = find_row(descriptions, survey, site)?;
     let hop = facts.max_hop.ok();
     hop.ok_or(Refusal::Fault(Fault::NoField(site)))
 }

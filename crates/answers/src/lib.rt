@@ -1,13 +1,15 @@
-// What the exported calls answer, in eight words: a refusal, and the calls on numbers, lines, dumps and texts.
+// What the exported calls answer, in eight words: a refusal, a number, and the calls on hex numbers and lines.
 #![tactic(auto)]
 
-ghost use Rattle.std.specs.Prelude.{◌≡◌, [], ◌∷◌};
+ghost use Rattle.std.specs.Prelude.{◌≡◌, ℕ, [], ◌∷◌};
+ghost use Rattle.usb4.specs.Numbers.{speed_number};
 ghost use Rattle.refusal.specs.Outcome.{refused as refused_with, value};
 ghost use Rattle.refusal.specs.Refusal.{at, refusal_of, refused_by, outcome};
 ghost use Rattle.answers.specs.Said.{said, always, perhaps, one, register_words, hex_of_bits};
 
 use refusal::{Fault, Refusal, Site};
 use register::Register;
+use usb4::Speed;
 
 // Of a refusal by its number and one value.
 fn valued(number: u64, value: usize) -> [u64; 8]
@@ -112,27 +114,60 @@ pub fn line(answer: Result<Option<Register>, Refusal>) -> [u64; 8]
             r.value as u64,
             0,
         ],
-        Ok(None) => [0; 8],
+        Ok(None) => [0; 8], // no record
         Err(refusal) => refused(refusal),
     }
 }
 
-// A dump's number of records.
-pub fn dump(answer: Result<usize, Refusal>) -> [u64; 8]
-    ensures { result ≡ said (always one (outcome answer)) }
+// A number that an exported call answers.
+pub trait Number {
+    ghost value: { Self → ℕ };
+
+    fn number(self) -> u64
+        ensures { result ≡ value self };
+}
+
+impl Number for usize {
+    ghost value = { λ n. n };
+
+    fn number(self) -> u64 {
+        self as u64
+    }
+}
+
+impl Number for u32 {
+    ghost value = { λ n. n };
+
+    fn number(self) -> u64 {
+        u64::from(self)
+    }
+}
+
+impl Number for Speed {
+    ghost value = { speed_number };
+
+    fn number(self) -> u64 {
+        u64::from(u32::from(self))
+    }
+}
+
+// A number, or a refusal.
+pub fn always<N: Number>(answer: Result<N, Refusal>) -> [u64; 8]
+    ensures { result ≡ said (always (λ n. one (N.value n)) (outcome answer)) }
 {
     match answer {
-        Ok(records) => result(records as u64),
+        Ok(n) => result(n.number()),
         Err(refusal) => refused(refusal),
     }
 }
 
-// The number of a text's survey words.
-pub fn text(answer: Result<usize, Refusal>) -> [u64; 8]
-    ensures { result ≡ said (always one (outcome answer)) }
+// A number that may be none or absent, or a refusal.
+pub fn perhaps<N: Number>(answer: Result<Option<N>, Refusal>) -> [u64; 8]
+    ensures { result ≡ said (perhaps (λ n. one (N.value n)) (outcome answer)) }
 {
     match answer {
-        Ok(words) => result(words as u64),
+        Ok(Some(n)) => result(n.number()),
+        Ok(None) => [0; 8], // no number
         Err(refusal) => refused(refusal),
     }
 }

@@ -17,7 +17,7 @@ fn end_of(table: &[u64], bound: u64) -> usize
     table.len()
 }
 
-// Where the words that are not below a bound begin, in words that are in order.
+// Where the words that are not below a bound begin, in words that are in order. By hand, since `partition_point` of the library promises nothing of words in any other order, and this promises a boundary.
 pub fn seek(table: &[u64], bound: u64) -> usize
     ensures { Boundary table.now bound result }
 {

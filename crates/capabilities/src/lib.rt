@@ -9,7 +9,7 @@ ghost use Rattle.capabilities.specs.Capability.{numbered_in, said_adapter, capab
 ghost use Rattle.capabilities.specs.Work.{head_outcome};
 
 use adapter::Part;
-use refusal::Refusal;
+use refusal::{Refusal, Site};
 
 // Where the adapter with a number has its head, of those from a place on up to the next device.
 fn head_from(survey: &[u32], from: usize, number: u8) -> Option<usize>
@@ -30,17 +30,17 @@ fn head_from(survey: &[u32], from: usize, number: u8) -> Option<usize>
 }
 
 // Where an adapter of the device at a place has its head.
-fn find_head(survey: &[u32], place: usize, number: u8) -> Option<usize>
-    ensures { head_outcome survey.now result ≡ said_adapter (devices_of survey.now) place number }
+fn find_head(survey: &[u32], site: Site) -> Option<usize>
+    ensures { head_outcome survey.now result ≡ said_adapter (devices_of survey.now) site.place site.adapter }
 {
-    let mut left = place;
+    let mut left = site.place;
     let mut i = listing::next_head(survey, 0);
     while i < survey.len() {
         if survey[i] / 268435456 % 16 == 4 {
             i = listing::next_head(survey, i + 1);
         } else {
             if left < 1 {
-                return head_from(survey, i + 4, number);
+                return head_from(survey, i + 4, site.adapter);
             }
             left -= 1;
             i = listing::next_head(survey, i + 4);
@@ -53,14 +53,13 @@ fn find_head(survey: &[u32], place: usize, number: u8) -> Option<usize>
 pub fn capability(
     descriptions: &[u32],
     survey: &[u32],
-    place: usize,
-    number: u8,
+    site: Site,
     cap: u32,
 ) -> Result<Option<Part>, Refusal>
-    ensures { outcome result ≡ capability_answer descriptions.now survey.now place number cap }
+    ensures { outcome result ≡ capability_answer descriptions.now survey.now site.place site.adapter cap }
 {
     load::accept(descriptions, survey)?;
-    let Some(at) = find_head(survey, place, number) else {
+    let Some(at) = find_head(survey, site) else {
         return Err(Refusal::Missing);
     };
     Ok(adapter::capability(survey, at, cap))

@@ -1,5 +1,5 @@
 -- Cases of stored answers: the bytes and the words of a line, how many lines agree, and what is printed of that. Assumes nothing.
-use Rattle.std.specs.Prelude.{ℕ, zero, suc, ◌+◌, ◌-◌, ◌/◌, ◌%◌, ◌≡◌, ◌<◌, ◌≤◌, Bool, true, false, cond, ◌&&◌, List, [], ◌∷◌, ◌++◌, eqb, leb, length, get_or, replicate, Option, None, Some}
+use Rattle.std.specs.Prelude.{ℕ, zero, suc, ◌+◌, ◌-◌, ◌/◌, ◌%◌, ◌≡◌, ◌<◌, ◌≤◌, Bool, true, false, cond, ◌&&◌, List, [], ◌∷◌, ◌++◌, eqb, leb, length, get_or, Option, None, Some}
 use Rattle.std.specs.Io.KnownBytes.{Consumes, IsAtEnd}
 use Rattle.std.specs.Fmt.{decimal}
 use Rattle.std.specs.List.{concat}
@@ -101,10 +101,6 @@ missing_line name = name ++ bytes_of " missing\n"
 
 unfoldable pub long_line : List ℕ → List ℕ
 long_line name = name ++ bytes_of " too long\n"
-
--- a buffer as it is made
-unfoldable pub zeros : ℕ → List ℕ
-zeros n = replicate n 0
 
 -- a name, how many cases, how many agree and differ, and the first that differs
 unfoldable pub totals_line : List ℕ → Totals → List ℕ

@@ -87,7 +87,7 @@ pub fn replay<R: Read + Drop, W: Write, C: Compare>(
     let Ok(mut file) = file else {
         return write!(to, "{name} missing\n");
     };
-    let mut text = crate::room::<1000000>();
+    let mut text = input::room::<1000000>();
     let n = input::read_full(&mut file, &mut text)?;
     if n == 1000000 {
         return write!(to, "{name} too long\n");

@@ -2,9 +2,9 @@
 #![tactic(auto)]
 
 ghost use Rattle.std.specs.Prelude.{◌≡◌};
-ghost use Rattle.usb4.specs.Codes.{type_of, lane_state_of, speed_of, device_kind_of};
+ghost use Rattle.usb4.specs.Codes.{type_of, lane_state_of, speed_of};
 
-use usb4::{AdapterType, Kind, Speed, State};
+use usb4::{AdapterType, Speed, State};
 
 // The codes of adapter types, bits 0 to 23 of ADP_CS_2.
 pub const ADP_CS_2_TYPE_INACTIVE: u32 = 0x000000;
@@ -103,11 +103,4 @@ pub fn speed_of(code: u32) -> Speed
         LANE_ADP_CS_1_CURRENT_SPEED_GEN4 => Speed::Gen4,
         _ => Speed::Unknown,
     }
-}
-
-// The device kind of a number, for calls that are still to become `Kind::from`.
-pub fn device_kind(number: u32) -> Kind
-    ensures { result ≡ device_kind_of number }
-{
-    Kind::from(number)
 }

@@ -1,6 +1,6 @@
 -- Laws of the rules: the bytes of good_name, and the loop of check. Assumes nothing.
 use Rattle.std.specs.List.{list_all, range_with_len}
-use Prim.Native.Nat.{ℕ, zero, suc, ◌+◌, ◌-◌, ◌≤◌, ◌<◌}
+use Prim.Native.Nat.{ℕ, zero, suc, ◌+◌, ◌≤◌, ◌<◌}
 use mathlib.Core.Path.{◌≡◌, refl, sym, ap, ◌∙◌}
 use mathlib.Core.List.{List, [], ◌∷◌}
 use mathlib.Core.Bool.{Bool, true, false, cond, false≢true, ◌&&◌}

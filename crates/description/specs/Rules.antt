@@ -1,5 +1,5 @@
 -- Document 01, "Words" and refusal 3: when a description group breaks the rules. Assumes nothing.
-use Rattle.std.specs.Prelude.{ℕ, zero, suc, ◌+◌, ◌*◌, Bool, true, false, cond, ◌&&◌, ◌||◌, List, [], ◌∷◌, ltb, leb, eqb, length, Err, Ok, Result}
+use Rattle.std.specs.Prelude.{ℕ, zero, suc, ◌+◌, ◌*◌, Bool, true, false, cond, ◌&&◌, ◌||◌, List, [], ◌∷◌, ltb, leb, eqb, length}
 use Rattle.refusal.specs.Outcome.{Outcome, refused, value, bind}
 use Rattle.layout.specs.Layout.{bits, word, kind, space, has_cap, has_vs, name_len, cap_id, vs_id, listed, kinds, start, end, field_len, short_len, name_words, name_at, field_at, short_at, byte_at, size_of, heads}
 use Rattle.layout.specs.Description.{Description, descriptions_of}

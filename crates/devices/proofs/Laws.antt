@@ -11,10 +11,10 @@ use Rattle.refusal.specs.Outcome.{Outcome, refused, value, bind}
 use Rattle.adapter.specs.Adapter.{AdapterRow, facts_row}
 use Rattle.adapter.specs.declared.Facts.{Facts}
 use Rattle.tables.specs.Rows.{Rows, DeviceRow, adapter_in, device_in}
-use Rattle.tables.specs.Packed.{devices_in}
-use Rattle.tables.specs.Found.{AdapterSought, adapter_found, device_found, device_row}
+use Rattle.tables.specs.Packed.{devices_in, device_row}
+use Rattle.tables.specs.Found.{AdapterSought, adapter_found, device_found}
 use Rattle.tables.specs.declared.DeviceFacts.{DeviceFacts}
-use Rattle.tables.proofs.Laws.{device_past_routes}
+use Rattle.tables.proofs.Laws.{device_past}
 use Rattle.tables.specs.Tables.{rows_of, Tabled}
 use Rattle.tables.specs.declared.Tables.{Tables}
 use Rattle.load.proofs.Result.{tables_gone_on}
@@ -38,7 +38,7 @@ bind_bind (value a) f g = refl
 
 -- what follows of a device that was sought in the tables
 pub asked : {B : Type 0} (q : Result Tables Refusal) (o : Outcome Rows) (t : Tables) (p : ℕ) (k : Rows → DeviceRow → Outcome B) (d : Option DeviceRow)
-    → tables_rows q ≡ o → q ≡ Ok t → d ≡ device_in (devices_in t.routes.now t.marks.now) p
+    → tables_rows q ≡ o → q ≡ Ok t → d ≡ device_in (devices_in t.devices.now) p
     → bind (present d) (k (rows_of t)) ≡ bind o (λ x. bind (asked_device x p) (k x))
 unfolding asked_device rows_of
 asked q o t p k d same g f = ap (λ (z : Option DeviceRow). bind (present z) (k (rows_of t))) f ∙ sym (tables_gone_on q o same (λ x. bind (asked_device x p) (k x)) t g)
@@ -66,12 +66,12 @@ module _ {A : Type 0} (o : Option A) (q : Result A Refusal) (is : q ≡ ok_or o 
       go (Some b) f = cc
 
 -- a device that is there has a place that fits a key
-pub place_fits : (t : Tables) (p : ℕ) (x : DeviceRow) → length t.routes.now ≤ 65536 → Some x ≡ device_in (devices_in t.routes.now t.marks.now) p → p < 65536
+pub place_fits : (t : Tables) (p : ℕ) (x : DeviceRow) → length t.devices.now ≤ 65536 → Some x ≡ device_in (devices_in t.devices.now) p → p < 65536
 place_fits t p x u f = go (dec_lt p 65536)
   where
     go : Dec (p < 65536) → p < 65536
     go (yes q) = q
-    go (no q) = absurd (none-some x (device_past_routes 0 t.routes.now t.marks.now p (omega (arith, u)) ∙ sym f))
+    go (no q) = absurd (none-some x (device_past 0 t.devices.now p (omega (arith, u)) ∙ sym f))
 
 module _ {B : Type 0} (t s : List ℕ) (p : ℕ) (k : DeviceRow → Outcome B) (x : Result DeviceFacts Refusal) (e : read_outcome p x ≡ read_device t s p) where
   read_then : bind (read_outcome p x) k ≡ bind (loaded t s) (λ w. bind (asked_device w p) k)
@@ -90,15 +90,15 @@ module _ {B : Type 0} (t s : List ℕ) (p : ℕ) (k : DeviceRow → Outcome B) (
 
 -- the device is there, so the adapter is what is found of it
 module _ (q : Result Tables Refusal) (s l : List ℕ) (t : Tables) (p n : ℕ) (f : DeviceRow → AdapterRow → Outcome (Option ℕ)) (same : tables_rows q ≡ loaded s l) (k : q ≡ Ok t) (w : Tabled t)
-    (o : Option DeviceFacts) (e : device_found p o ≡ device_in (devices_in t.routes.now t.marks.now) p) (d : DeviceFacts) (i : o ≡ Some d) (r : Option Facts) (h : AdapterSought t.adapters.now p n r) where
-  found : Some (device_row p d) ≡ device_in (devices_in t.routes.now t.marks.now) p
+    (o : Option DeviceFacts) (e : device_found p o ≡ device_in (devices_in t.devices.now) p) (d : DeviceFacts) (i : o ≡ Some d) (r : Option Facts) (h : AdapterSought t.adapters.now p n r) where
+  found : Some (device_row p d) ≡ device_in (devices_in t.devices.now) p
   unfolding device_found
   found = sym (ap (device_found p) i) ∙ e
 
   by_both : bind (present (adapter_found p r)) (f (device_row p d)) ≡ on_adapter s l p n f
   unfolding on_adapter present bind rows_of
   by_both =
-      ap (λ (y : Option AdapterRow). bind (present y) (f (device_row p d))) (h.first (place_fits t p _ w.devices found) w.adapter_order)
+      ap (λ (y : Option AdapterRow). bind (present y) (f (device_row p d))) (h.first (place_fits t p _ w.others.devices found) w.others.adapters)
       ∙ asked q (loaded s l) t p (λ x y. bind (present (adapter_in x.adapters p n)) (f y)) (Some (device_row p d)) same k found
 
   pub adapter_missing : r ≡ None → refused 14 [] ≡ on_adapter s l p n f

@@ -2,7 +2,7 @@
 use Rattle.std.specs.Prelude.{Err, Ok, Result, ℕ, List}
 use Rattle.refusal.specs.Outcome.{Outcome, value, bind}
 use Rattle.tables.specs.Rows.{DeviceRow}
-use Rattle.tables.specs.Found.{device_row}
+use Rattle.tables.specs.Packed.{device_row}
 use Rattle.load.specs.Loading.{loaded}
 use Rattle.load.specs.Answers.{asked_device}
 use Rattle.refusal.specs.Refusal.{refused_by}

@@ -3,19 +3,18 @@
 
 ghost use Rattle.discoveries.specs.Calls.{DiscoverDone};
 
-use refusal::Refusal;
+use refusal::{Refusal, Site};
 
 // The tunnels from an adapter of the device at a place, as result words: how many, or the words needed (2); or no list.
 pub fn discover(
     descriptions: &[u32],
     survey: &[u32],
-    place: usize,
-    adapter: u8,
+    site: Site,
     output: &mut [u32],
 ) -> Result<Option<usize>, Refusal>
-    ensures { DiscoverDone descriptions.now survey.now place adapter output.old result output.new }
+    ensures { DiscoverDone descriptions.now survey.now site.place site.adapter output.old result output.new }
 {
     let loaded = load::load(descriptions, survey);
     let tables = loaded.tables()?;
-    discovery::discover_in(&tables, place, adapter, output)
+    discovery::discover_in(&tables, site, output)
 }

@@ -10,7 +10,7 @@ use native.Mathlib.Decide.{dec_lt}
 use lib.Dec.{ltb, eqb}
 use lib.ListN.{length, take, drop, drop_of_length-le}
 use lib.Seq.{length-take-le, length_front, drop_at}
-use borrow.Author.Tests.{lt-ltb, le-ltb, eq-eqb, ne_eqb}
+use borrow.Author.Tests.{lt-ltb, le-ltb, ne_eqb}
 use Rattle.refusal.specs.Outcome.{Outcome, refused, value, bind}
 use Rattle.refusal.specs.Refusal.{at as site-at, refusal_of, field_at, is_given, IsMet, of_walk, refused_by, walk_outcome}
 use Rattle.refusal.specs.declared.Fault.TheVariants.{NoField}
@@ -27,7 +27,7 @@ use Rattle.tables.specs.Rows.{Rows, adapter_in, device_in}
 use Rattle.tables.specs.Packed.{type_by, adapters_in, devices_in}
 use Rattle.tables.specs.Found.{device_found, adapter_found, AdapterSought}
 use Rattle.tables.specs.declared.DeviceFacts.{DeviceFacts}
-use Rattle.tables.proofs.Laws.{type_round, device_past_routes}
+use Rattle.tables.proofs.Laws.{type_round, device_past}
 use Rattle.load.specs.Answers.{present, asked_device, asked_adapter}
 use Rattle.refusal.specs.Refusal.{refused_by, field_at, is_given, IsMet, of_walk, walk_outcome}
 use Rattle.refusal.specs.declared.Refusal.{Refusal}
@@ -50,6 +50,7 @@ use Rattle.refusal.specs.declared.FieldError.TheVariants as field
 use Rattle.tables.specs.declared.Tables.{Tables}
 use Rattle.tables.specs.Tables.{Sized, Tabled, rows_of}
 use Rattle.refusal.specs.declared.WalkError.{WalkError}
+use Rattle.refusal.specs.declared.Site.{Site}
 use mathlib.Core.Logic.{inl, inr}
 
 -- ---- by what is discovered
@@ -176,31 +177,31 @@ unfolding bind
 counted_refused (refused k vs) r e = (k, vs, refl, λ A. sym (walk_bind r (λ y. refused 0 [])) ∙ ap (λ w. bind w (λ y. refused 0 [])) e)
 counted_refused (value ts) r e = absurd (let w = refused_as_lem (value (length (tunnels_words ts))) (of_walk r) e in let v = w.2 in let z : ◌≡◌ {A = ℕ} 0 1 = cc in omega arith)
 
-module _ (tables : Tables) (p a : ℕ) (out : List ℕ) where
+module _ (tables : Tables) (s : Site) (out : List ℕ) where
   abbrev Rung : Result (Option ℕ) FieldError → Result (Option ℕ) Refusal → List ℕ → Type 0
-  Rung m r out' = Answered tables p (λ x. dma_by x p a (field_at (adapter_site p a) m)) out r out'
+  Rung m r out' = Answered tables s.place (λ x. dma_by x s.place s.adapter (field_at s m)) out r out'
 
   pub dma_absent : (m : Result (Option ℕ) FieldError) → m ≡ (Ok None) → Rung m (Ok None) out
   unfolding is_given dma_by bind or_none
   dma_absent m e = record {
-    follows = λ z t l. follows_none (dma_by (rows_of tables) p a (field_at (adapter_site p a) m)) out (ap (λ q. dma_by (rows_of tables) p a (field_at (adapter_site p a) q)) e);
+    follows = λ z t l. follows_none (dma_by (rows_of tables) s.place s.adapter (field_at s m)) out (ap (λ q. dma_by (rows_of tables) s.place s.adapter (field_at s q)) e);
     free = free_kept out (Ok None) refl none_met;
   }
 
-  pub dma_unread : (m : Result (Option ℕ) FieldError) → m ≡ (Err field.NoField) → Rung m (Err (refusal.Fault (NoField (adapter_site p a)))) out
+  pub dma_unread : (m : Result (Option ℕ) FieldError) → m ≡ (Err field.NoField) → Rung m (Err (refusal.Fault (NoField s))) out
   unfolding is_given dma_by bind refusal_of
   dma_unread m e = record {
-    follows = λ z t l. follows_refused (dma_by (rows_of tables) p a (field_at (adapter_site p a) m)) out (refusal.Fault (NoField (adapter_site p a))) 6 (site-at (adapter_site p a)) (ap (λ q. dma_by (rows_of tables) p a (field_at (adapter_site p a) q)) e) (λ A. refl);
-    free = free_kept out _ refl (walk_met (walk.Fault (NoField (adapter_site p a))));
+    follows = λ z t l. follows_refused (dma_by (rows_of tables) s.place s.adapter (field_at s m)) out (refusal.Fault (NoField s)) 6 (site-at s) (ap (λ q. dma_by (rows_of tables) s.place s.adapter (field_at s q)) e) (λ A. refl);
+    free = free_kept out _ refl (walk_met (walk.Fault (NoField s)));
   }
 
   -- those past 65,535 have no tunnel
-  pub dma_rings : (m : Result (Option ℕ) FieldError) (hi end : ℕ) → m ≡ Ok (Some hi) → end ≡ rings_end hi → (r : Result (Option ℕ) Refusal) (out' : List ℕ) → Answered tables p (λ x. ring_list x p a (end - 1)) out r out' → Rung m r out'
+  pub dma_rings : (m : Result (Option ℕ) FieldError) (hi end : ℕ) → m ≡ Ok (Some hi) → end ≡ rings_end hi → (r : Result (Option ℕ) Refusal) (out' : List ℕ) → Answered tables s.place (λ x. ring_list x s.place s.adapter (end - 1)) out r out' → Rung m r out'
   unfolding dma_by bind or_none
-  dma_rings m hi end e is r out' w = answered_as tables p _ _ out r out'
+  dma_rings m hi end e is r out' w = answered_as tables s.place _ _ out r out'
       (λ z.
-      ap (λ y. dma_by (rows_of tables) p a (field_at (adapter_site p a) y)) e
-      ∙ ap (λ y. bind y (λ ts. value (Some ts))) (rings_capped tables p a hi z ∙ ap (λ y. rings (rows_of tables) p a 1 (y - 1)) (sym is)))
+      ap (λ y. dma_by (rows_of tables) s.place s.adapter (field_at s y)) e
+      ∙ ap (λ y. bind y (λ ts. value (Some ts))) (rings_capped tables s.place s.adapter hi z ∙ ap (λ y. rings (rows_of tables) s.place s.adapter 1 (y - 1)) (sym is)))
       w
 
 module _ (tables : Tables) (p a : ℕ) (out : List ℕ) (k : ℕ) where
@@ -396,19 +397,19 @@ module _ (tables : Tables) (p a : ℕ) (out : List ℕ) where
       (λ t. follows_refused (discover_at (rows_of tables) p a) out refusal.Missing 14 [] (ap (λ o. bind o (λ y. discover (rows_of tables) p y)) (f t)) (λ A. refl))
       (free_kept out (Err refusal.Missing) refl (walk_met walk.Missing))
 
-  module _ (z : Sized tables) (d : Option DeviceFacts) (e : device_found p d ≡ device_in (devices_in tables.routes.now tables.marks.now) p) where
+  module _ (z : Sized tables) (d : Option DeviceFacts) (e : device_found p d ≡ device_in (devices_in tables.devices.now) p) where
     pub no_device : d ≡ None → Discovered tables p a out (Err refusal.Missing) out
     unfolding device_found asked_adapter asked_device present bind rows_of
     no_device q = in_missing z (λ t. ap (λ o. bind (present o) (λ x. present (adapter_in (adapters_in tables.adapters.now) p a))) (sym e ∙ ap (device_found p) q))
 
     module _ (v : DeviceFacts) (q : d ≡ Some v) where
-      near : p < length tables.routes.now
+      near : p < length tables.devices.now
       unfolding device_found
-      near = go (dec_lt p (length tables.routes.now))
+      near = go (dec_lt p (length tables.devices.now))
         where
-          go : Dec (p < length tables.routes.now) → p < length tables.routes.now
+          go : Dec (p < length tables.devices.now) → p < length tables.devices.now
           go (yes l) = l
-          go (no l) = absurd (let w = sym (ap (device_found p) q) ∙ e ∙ sym (device_past_routes 0 tables.routes.now tables.marks.now p (omega arith)) in let y : ◌≡◌ {A = ℕ} 0 1 = cc in omega arith)
+          go (no l) = absurd (let w = sym (ap (device_found p) q) ∙ e ∙ sym (device_past 0 tables.devices.now p (omega arith)) in let y : ◌≡◌ {A = ℕ} 0 1 = cc in omega arith)
 
       asked : asked_adapter (rows_of tables) p a ≡ present (adapter_in (adapters_in tables.adapters.now) p a)
       unfolding device_found asked_adapter asked_device present bind rows_of
@@ -416,7 +417,7 @@ module _ (tables : Tables) (p a : ℕ) (out : List ℕ) where
 
       module _ (s : Option Facts) (g : AdapterSought tables.adapters.now p a s) where
         sought : Tabled tables → adapter_found p s ≡ adapter_in (adapters_in tables.adapters.now) p a
-        sought t = g.first (omega (arith, near, z.devices)) t.adapter_order
+        sought t = g.first (omega (arith, near, z.devices)) t.others.adapters
 
         pub no_adapter : s ≡ None → Discovered tables p a out (Err refusal.Missing) out
         unfolding adapter_found present

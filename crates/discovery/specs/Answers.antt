@@ -1,5 +1,5 @@
 -- What discovery answers, and writes, on rows. Assumes nothing.
-use Rattle.std.specs.Prelude.{ℕ, Bool, true, false, cond, List, [], ◌∷◌, ◌++◌, ltb, length, drop, Option, None, Some, Err, Ok, Result}
+use Rattle.std.specs.Prelude.{ℕ, cond, List, [], ◌∷◌, ◌++◌, ltb, length, drop, Option, None, Some}
 use Rattle.refusal.specs.Outcome.{Outcome, refused, value, bind}
 use Rattle.tables.specs.Rows.{Rows}
 use Rattle.load.specs.Answers.{asked_adapter}

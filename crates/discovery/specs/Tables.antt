@@ -11,9 +11,9 @@ use Rattle.tables.specs.Tables.{Sized, Tabled, rows_of}
 pub record Discovered (tables : Tables) (p a : ℕ) (output : List ℕ) (r : Result (Option ℕ) Refusal) (output' : List ℕ) : Type 0 where
   pub answers : Sized tables → Tabled tables → outcome r ≡ bind (discover_at (rows_of tables) p a) (in_room (length output))
   pub writes : Sized tables → Tabled tables → output' ≡ output_by (discover_at (rows_of tables) p a) output
-  -- larger tables have no tunnels
+  -- larger tables are not looked at: no tunnels
   pub larger : (Sized tables → ⊥) → r ≡ (Ok None)
-  -- on any tables, it is refused as a walk is, or for want of room
+  -- on any tables, it is refused by a fault, 14 or 2
   pub met : (m : Refusal) → r ≡ Err m → IsMet m
   pub kept : is_given r ≡ false → output' ≡ output
   pub fits : (n : ℕ) → r ≡ Ok (Some n) → n ≤ length output

@@ -3,7 +3,7 @@
 
 ghost use Rattle.std.specs.Prelude.{ℕ, ◌+◌, ◌*◌, ◌-◌, ◌≤◌, ◌<◌, ◌≡◌, true, cond, List, length, get_or, Ok};
 ghost use Rattle.usb4.specs.Numbers.{tunnel_number, type_number};
-ghost use Rattle.adapter.specs.Adapter.{facts_row, adapter_site};
+ghost use Rattle.adapter.specs.Adapter.{facts_row};
 ghost use Rattle.receive.specs.Tables.{Receives};
 ghost use Rattle.tunnel.specs.Tunnels.{discover, one_dma};
 ghost use Rattle.tunnel.specs.Plans.{Plans, paths_by};
@@ -30,8 +30,7 @@ const UNTOLD: usize = 2048;
 #[derive(Clone, Copy)]
 struct HostRings<'a> {
     tables: Tables<'a>,
-    place: usize,
-    adapter: u8,
+    site: Site,
     notes: &'a [u64],
     last: Result<Received, WalkError>,
 }
@@ -40,7 +39,7 @@ struct HostRings<'a> {
 fn tunnel_word(kind: TunnelType, closed: bool, paths: u8) -> u32
     ensures { result ≡ 8 * 268435456 + cond closed 65536 0 + paths * 256 + tunnel_number kind }
 {
-    let word = 2147483648 + (paths as u32) * 256 + usb4::tunnel_number(kind);
+    let word = 2147483648 + (paths as u32) * 256 + u32::from(kind);
     if closed {
         return word + 65536;
     }
@@ -164,10 +163,10 @@ fn unmark_used(idle: &mut [u8], entry: u64, owner: u64)
 }
 
 // Unmarks the rings that entries leave by, and those at which entries of an adapter of the device at a place stand.
-fn unmark_all(entries: &[u64], place: usize, adapter: u8, idle: &mut [u8])
-    ensures { Resting entries.now place adapter idle.new }
+fn unmark_all(entries: &[u64], site: Site, idle: &mut [u8])
+    ensures { Resting entries.now site.place site.adapter idle.new }
 {
-    let owner = (place % 65536) as u64 * 256 + adapter as u64;
+    let owner = (site.place % 65536) as u64 * 256 + site.adapter as u64;
     for &entry in entries {
         unmark_used(idle, entry, owner);
     }
@@ -175,13 +174,13 @@ fn unmark_all(entries: &[u64], place: usize, adapter: u8, idle: &mut [u8])
 
 // The rings that are known to have no tunnel before each is asked, marked with 1.
 fn at_rest(rings: &HostRings) -> [u8; 2048]
-    ensures { Receives rings.now.tables 65535 rings.now.last → Idle rings.now.tables rings.now.place rings.now.adapter result }
+    ensures { Receives rings.now.tables 65535 rings.now.last → Idle rings.now.tables rings.now.site.place rings.now.site.adapter result }
 {
     if !is_quiet(&rings.tables, rings.last) {
         return [0u8; 2048];
     }
     let mut idle = [1u8; 2048];
-    unmark_all(rings.tables.entries, rings.place, rings.adapter, &mut idle);
+    unmark_all(rings.tables.entries, rings.site, &mut idle);
     idle
 }
 
@@ -255,12 +254,12 @@ fn received_by(rings: &HostRings, ring: u16) -> Result<Received, WalkError>
 // A ring's tunnel.
 fn plan_ring(rings: &HostRings, ring: u16) -> Result<Option<Plan>, WalkError>
     requires { Told rings.now.tables rings.now.notes.now rings.now.last }
-    ensures { Plans rings.now.tables rings.now.place (λ x. one_dma x rings.now.place rings.now.adapter ring) result }
+    ensures { Plans rings.now.tables rings.now.site.place (λ x. one_dma x rings.now.site.place rings.now.site.adapter ring) result }
 {
     let received = received_by(rings, ring);
     let stand = Stand {
-        place: rings.place,
-        adapter: rings.adapter,
+        place: rings.site.place,
+        adapter: rings.site.adapter,
         hop_id: ring,
     };
     tunnel::one_dma(&rings.tables, stand, received)
@@ -286,9 +285,9 @@ fn tally_rings(
     idle: &mut [u8; 2048],
     draft: &mut [u32],
 ) -> Result<usize, WalkError>
-    requires { (1 ≤ end) × (end ≤ 65536) × Idle rings.now.tables rings.now.place rings.now.adapter idle.old × Told rings.now.tables rings.now.notes.now rings.now.last }
-    ensures tallies { Tallies rings.now.tables rings.now.place rings.now.adapter (end - 1) result × Idle rings.now.tables rings.now.place rings.now.adapter idle.new }
-    ensures drafted { Drafted rings.now.tables rings.now.place rings.now.adapter (end - 1) draft.new }
+    requires { (1 ≤ end) × (end ≤ 65536) × Idle rings.now.tables rings.now.site.place rings.now.site.adapter idle.old × Told rings.now.tables rings.now.notes.now rings.now.last }
+    ensures tallies { Tallies rings.now.tables rings.now.site.place rings.now.site.adapter (end - 1) result × Idle rings.now.tables rings.now.site.place rings.now.site.adapter idle.new }
+    ensures drafted { Drafted rings.now.tables rings.now.site.place rings.now.site.adapter (end - 1) draft.new }
 {
     let mut at: usize = 0;
     let mut need: usize = 0;
@@ -314,8 +313,8 @@ fn is_idle(idle: &[u8; 2048], ring: u32) -> bool
 
 // Writes the tunnel of a ring from a place of the output on, unless the ring is marked; the place after it.
 fn put_ring(rings: &HostRings, ring: u32, idle: &[u8; 2048], output: &mut [u32], at: usize) -> usize
-    requires { (ring < 65536) × (at ≤ length output.old) × Idle rings.now.tables rings.now.place rings.now.adapter idle.now × Told rings.now.tables rings.now.notes.now rings.now.last }
-    ensures { RingPut rings.now.tables rings.now.place rings.now.adapter ring at output.old result output.new }
+    requires { (ring < 65536) × (at ≤ length output.old) × Idle rings.now.tables rings.now.site.place rings.now.site.adapter idle.now × Told rings.now.tables rings.now.notes.now rings.now.last }
+    ensures { RingPut rings.now.tables rings.now.site.place rings.now.site.adapter ring at output.old result output.new }
 {
     if is_idle(idle, ring) {
         return at;
@@ -328,8 +327,8 @@ fn put_ring(rings: &HostRings, ring: u32, idle: &[u8; 2048], output: &mut [u32],
 
 // Writes the tunnels of rings 1 to `end`, which is left out, until the output is full.
 fn put_rings(rings: &HostRings, end: u32, idle: &[u8; 2048], output: &mut [u32])
-    requires { (1 ≤ end) × (end ≤ 65536) × Idle rings.now.tables rings.now.place rings.now.adapter idle.now × Told rings.now.tables rings.now.notes.now rings.now.last }
-    ensures { RingsPut rings.now.tables rings.now.place rings.now.adapter (end - 1) output.old output.new }
+    requires { (1 ≤ end) × (end ≤ 65536) × Idle rings.now.tables rings.now.site.place rings.now.site.adapter idle.now × Told rings.now.tables rings.now.notes.now rings.now.last }
+    ensures { RingsPut rings.now.tables rings.now.site.place rings.now.site.adapter (end - 1) output.old output.new }
 {
     let mut at: usize = 0;
     for ring in 1..end {
@@ -342,8 +341,8 @@ fn put_rings(rings: &HostRings, end: u32, idle: &[u8; 2048], output: &mut [u32])
 
 // Writes the tunnels of rings 1 to `end`, which is left out: as they were drafted, if there was room for them.
 fn put_tallied(rings: &HostRings, end: u32, idle: &[u8; 2048], draft: &[u32], output: &mut [u32])
-    requires { (1 ≤ end) × (end ≤ 65536) × Idle rings.now.tables rings.now.place rings.now.adapter idle.now × Drafted rings.now.tables rings.now.place rings.now.adapter (end - 1) draft.now × Told rings.now.tables rings.now.notes.now rings.now.last }
-    ensures { RingsPut rings.now.tables rings.now.place rings.now.adapter (end - 1) output.old output.new }
+    requires { (1 ≤ end) × (end ≤ 65536) × Idle rings.now.tables rings.now.site.place rings.now.site.adapter idle.now × Drafted rings.now.tables rings.now.site.place rings.now.site.adapter (end - 1) draft.now × Told rings.now.tables rings.now.notes.now rings.now.last }
+    ensures { RingsPut rings.now.tables rings.now.site.place rings.now.site.adapter (end - 1) output.old output.new }
 {
     let need = output.len();
     if need <= draft.len() {
@@ -376,7 +375,7 @@ fn put_one(
 // The tunnels of rings 1 to `end`, which is left out, by what the search for ring 65,535 noted and came to.
 fn put_noted(rings: &HostRings, end: u32, output: &mut [u32]) -> Result<Option<usize>, Refusal>
     requires { (1 ≤ end) × (end ≤ 65536) × Told rings.now.tables rings.now.notes.now rings.now.last × Receives rings.now.tables 65535 rings.now.last }
-    ensures { Answered rings.now.tables rings.now.place (λ x. ring_list x rings.now.place rings.now.adapter (end - 1)) output.old result output.new }
+    ensures { Answered rings.now.tables rings.now.site.place (λ x. ring_list x rings.now.site.place rings.now.site.adapter (end - 1)) output.old result output.new }
 {
     let mut idle = at_rest(rings);
     let mut draft = [0u32; 256]; // room for the words of 36 rings with two paths of one hop each
@@ -391,13 +390,12 @@ fn put_noted(rings: &HostRings, end: u32, output: &mut [u32]) -> Result<Option<u
 // The same by a search with room for many notes: some 32 KiB of stack, which most surveys needn't pay for.
 fn put_far(
     tables: &Tables,
-    place: usize,
-    adapter: u8,
+    site: Site,
     end: u32,
     output: &mut [u32],
 ) -> Result<Option<usize>, Refusal>
     requires { (1 ≤ end) × (end ≤ 65536) }
-    ensures { Answered tables.now place (λ x. ring_list x place adapter (end - 1)) output.old result output.new }
+    ensures { Answered tables.now site.place (λ x. ring_list x site.place site.adapter (end - 1)) output.old result output.new }
 {
     let searched = receive::receive::<2048>(tables, 65535);
     let last = searched.found;
@@ -405,8 +403,7 @@ fn put_far(
     let count = known_notes(last, searched.noted);
     let rings = HostRings {
         tables: *tables,
-        place,
-        adapter,
+        site,
         notes: &notes[..count],
         last,
     };
@@ -416,29 +413,27 @@ fn put_far(
 // The same by a search with room for few notes, if they tell of all rings; if not, or where `far` says so, by one with room for many. It calls itself before it calls `put_far`: the compiler puts no large room into the frame of a function that calls itself. Otherwise the room of `put_far` would be in the frame of every answer.
 fn put_searched(
     tables: &Tables,
-    place: usize,
-    adapter: u8,
+    site: Site,
     end: u32,
     far: bool,
     output: &mut [u32],
 ) -> Result<Option<usize>, Refusal>
     requires { (1 ≤ end) × (end ≤ 65536) }
-    ensures { Answered tables.now place (λ x. ring_list x place adapter (end - 1)) output.old result output.new }
+    ensures { Answered tables.now site.place (λ x. ring_list x site.place site.adapter (end - 1)) output.old result output.new }
 {
     if far {
-        return put_far(tables, place, adapter, end, output);
+        return put_far(tables, site, end, output);
     }
     let searched = receive::receive::<64>(tables, 65535);
     let last = searched.found;
     let notes = searched.notes;
     let count = known_notes(last, searched.noted);
     if 63 < count {
-        return put_searched(tables, place, adapter, end, true, output);
+        return put_searched(tables, site, end, true, output);
     }
     let rings = HostRings {
         tables: *tables,
-        place,
-        adapter,
+        site,
         notes: &notes[..count],
         last,
     };
@@ -448,41 +443,35 @@ fn put_searched(
 // The tunnels of the rings of a host interface.
 fn put_dma(
     tables: &Tables,
-    place: usize,
-    adapter: u8,
+    site: Site,
     most: Result<Option<u32>, FieldError>,
     output: &mut [u32],
 ) -> Result<Option<usize>, Refusal>
-    ensures { Answered tables.now place (λ x. dma_by x place adapter (field_at (adapter_site place adapter) most)) output.old result output.new }
+    ensures { Answered tables.now site.place (λ x. dma_by x site.place site.adapter (field_at site most)) output.old result output.new }
 {
     match most {
         Ok(None) => Ok(None),
-        Err(_) => Err(Refusal::Fault(Fault::NoField(Site { place, adapter }))),
+        Err(_) => Err(Refusal::Fault(Fault::NoField(site))),
         Ok(Some(largest)) => {
             let end = rings_end(largest);
-            put_searched(tables, place, adapter, end, false, output)
+            put_searched(tables, site, end, false, output)
         }
     }
 }
 
 // The tunnel of an adapter that has one at most, by its kind.
-fn plan_of(
-    tables: &Tables,
-    place: usize,
-    adapter: u8,
-    kind: AdapterType,
-) -> Result<Option<Plan>, WalkError>
-    ensures { Plans tables.now place (λ x. tunnel_by x place adapter (type_number kind)) result }
+fn plan_of(tables: &Tables, site: Site, kind: AdapterType) -> Result<Option<Plan>, WalkError>
+    ensures { Plans tables.now site.place (λ x. tunnel_by x site.place site.adapter (type_number kind)) result }
 {
     match kind {
-        AdapterType::DisplayPortIn => tunnel::display_port(tables, place, adapter),
+        AdapterType::DisplayPortIn => tunnel::display_port(tables, site),
         AdapterType::PcieDown => {
             let pcie = TunnelType::Pcie;
-            tunnel::down_and_up(tables, place, adapter, pcie, 5, 6)
+            tunnel::down_and_up(tables, site, pcie, 5, 6)
         }
         AdapterType::Usb3Down => {
             let usb3 = TunnelType::Usb3;
-            tunnel::down_and_up(tables, place, adapter, usb3, 0, 1)
+            tunnel::down_and_up(tables, site, usb3, 0, 1)
         }
         _ => Ok(None),
     }
@@ -497,40 +486,42 @@ fn of_kind(
 ) -> Result<Option<usize>, Refusal>
     ensures { Answered tables.now place (λ x. discover x place (facts_row place facts)) output.old result output.new }
 {
-    let number = facts.number;
+    let site = Site {
+        place,
+        adapter: facts.number,
+    };
     let kind = facts.kind;
     if let AdapterType::HostInterface = kind {
         let most = facts.max_hop;
-        return put_dma(tables, place, number, most, output);
+        return put_dma(tables, site, most, output);
     }
     let state = facts.state;
     let State::Enabled = state else {
         return Ok(None);
     };
-    let plan = plan_of(tables, place, number, kind)?;
+    let plan = plan_of(tables, site, kind)?;
     put_one(tables, plan, output)
 }
 
 // The tunnels from an adapter of the device at a place: how many words they have, or the words needed (2); or no list.
 pub fn discover_in(
     tables: &Tables,
-    place: usize,
-    adapter: u8,
+    site: Site,
     output: &mut [u32],
 ) -> Result<Option<usize>, Refusal>
-    ensures { Discovered tables.now place adapter output.old result output.new }
+    ensures { Discovered tables.now site.place site.adapter output.old result output.new }
 {
     if MOST_ENTRIES < tables.entries.len() {
         return Ok(None);
     }
-    if MOST_DEVICES < tables.routes.len() {
+    if MOST_DEVICES < tables.devices.len() {
         return Ok(None);
     }
-    let Some(_) = routers::find_device(tables, place) else {
+    let Some(_) = routers::find_device(tables, site.place) else {
         return Err(Refusal::Missing);
     };
-    let Some(facts) = search::find_adapter(tables.adapters, place, adapter) else {
+    let Some(facts) = search::find_adapter(tables.adapters, site.place, site.adapter) else {
         return Err(Refusal::Missing);
     };
-    of_kind(tables, place, facts, output)
+    of_kind(tables, site.place, facts, output)
 }

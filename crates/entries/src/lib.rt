@@ -14,7 +14,7 @@ pub fn path(descriptions: &[u32], survey: &[u32], stand: Stand) -> Result<Option
 {
     let loaded = load::load(descriptions, survey);
     let tables = loaded.tables()?;
-    if tables.routes.len() <= stand.place {
+    if tables.devices.len() <= stand.place {
         return Err(Refusal::Missing);
     }
     let Some(_) = search::find_adapter(tables.adapters, stand.place, stand.adapter) else {

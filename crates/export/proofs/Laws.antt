@@ -20,7 +20,7 @@ use Rattle.walks.specs.Calls.{single, path_answer, walk_answer, WalkDone}
 use Rattle.discovery.specs.Answers as tunnels
 use Rattle.discoveries.specs.Calls.{DiscoverDone}
 use Rattle.answers.specs.Said.{answered, padded, said, always, words_in, perhaps, one}
-use Rattle.findings.specs.Findings.{hop_count_words}
+use Rattle.replies.specs.Replies.{hop_count_words}
 use Rattle.export.specs.Exported.{DumpSaid, TextSaid, WalkSaid, DiscoverSaid}
 use Rattle.export.proofs.Walks.{path_words_lem, endless_said, again_said}
 use Rattle.refusal.specs.Refusal.{outcome, is_given}

@@ -19,7 +19,7 @@ use Rattle.path.specs.Words.{words_needed}
 use Rattle.path.proofs.Writing.{length_path_words}
 use Rattle.walks.specs.Calls.{single}
 use Rattle.answers.specs.Said.{padded, said, words_in, perhaps}
-use Rattle.findings.specs.Findings.{hop_count_words}
+use Rattle.replies.specs.Replies.{hop_count_words}
 use Rattle.export.specs.Exported.{path_size}
 
 -- words as the output has room for them are counted by 64 bits

@@ -17,6 +17,7 @@ ghost use Rattle.replies.specs.Replies.{counts_words, info_words, speed_words};
 ghost use Rattle.export.specs.Exported.{DumpSaid, TextSaid, WalkSaid, DiscoverSaid};
 
 use naming::Sought;
+use refusal::Site;
 use tables::Stand;
 
 // A hex number of 16, 32 or 64 bits: its value, or none.
@@ -47,7 +48,7 @@ pub extern "C" fn tunnels_read_dump(
 )
     ensures { DumpSaid dump.now scratch.old output.old scratch.new output.new answer.new }
 {
-    let a = answers::dump(dump::read(dump, scratch, output));
+    let a = answers::always(dump::read(dump, scratch, output));
     *answer = a;
 }
 
@@ -56,7 +57,7 @@ pub extern "C" fn tunnels_read_dump(
 pub extern "C" fn tunnels_check_descriptions(words: &[u32], answer: &mut [u64; 8])
     ensures { answer.new ≡ said (always bare (check_of words.now)) }
 {
-    let a = lookups::descriptions(description::check(words));
+    let a = lookups::checked(description::check(words));
     *answer = a;
 }
 
@@ -65,7 +66,7 @@ pub extern "C" fn tunnels_check_descriptions(words: &[u32], answer: &mut [u64; 8
 pub extern "C" fn tunnels_check_survey(words: &[u32], answer: &mut [u64; 8])
     ensures { answer.new ≡ said (always bare (survey_check words.now)) }
 {
-    let a = lookups::survey(wellformed::check(words));
+    let a = lookups::checked(wellformed::check(words));
     *answer = a;
 }
 
@@ -89,7 +90,7 @@ pub extern "C" fn tunnels_describe(
         cap: cap_id,
         vs: vs_id,
     };
-    let a = lookups::described(metadata::describe(descriptions, q));
+    let a = answers::perhaps(metadata::describe(descriptions, q));
     *answer = a;
 }
 
@@ -104,7 +105,7 @@ pub extern "C" fn tunnels_field(
 )
     ensures { answer.new ≡ said (always one (field_answer descriptions.now place value name.now)) }
 {
-    let a = lookups::field(metadata::field(descriptions, place, value, name));
+    let a = answers::always(metadata::field(descriptions, place, value, name));
     *answer = a;
 }
 
@@ -128,7 +129,8 @@ pub extern "C" fn tunnels_adapter(
 )
     ensures { answer.new ≡ said (always info_words (adapter_answer descriptions.now survey.now place adapter)) }
 {
-    let a = replies::adapter(adapters::adapter(descriptions, survey, place, adapter));
+    let site = Site { place, adapter };
+    let a = replies::adapter(adapters::adapter(descriptions, survey, site));
     *answer = a;
 }
 
@@ -143,7 +145,8 @@ pub extern "C" fn tunnels_link_speed(
 )
     ensures { answer.new ≡ said (always speed_words (speed_answer descriptions.now survey.now place adapter)) }
 {
-    let a = replies::link_speed(adapters::link_speed(descriptions, survey, place, adapter));
+    let site = Site { place, adapter };
+    let a = answers::always(adapters::link_speed(descriptions, survey, site));
     *answer = a;
 }
 
@@ -158,7 +161,8 @@ pub extern "C" fn tunnels_max_hop(
 )
     ensures { answer.new ≡ said (perhaps one (max_hop_answer descriptions.now survey.now place adapter)) }
 {
-    let a = replies::max_hop(adapters::max_hop(descriptions, survey, place, adapter));
+    let site = Site { place, adapter };
+    let a = answers::perhaps(adapters::max_hop(descriptions, survey, site));
     *answer = a;
 }
 
@@ -172,7 +176,7 @@ pub extern "C" fn tunnels_parent(
 )
     ensures { answer.new ≡ said (perhaps one (parent_answer descriptions.now survey.now place)) }
 {
-    let a = findings::parent(parents::parent_from(descriptions, survey, place));
+    let a = answers::perhaps(parents::parent_from(descriptions, survey, place));
     *answer = a;
 }
 
@@ -194,7 +198,7 @@ pub extern "C" fn tunnels_walk(
         adapter,
         hop_id: hop,
     };
-    let a = findings::walk(walks::discover_path(descriptions, survey, stand, output));
+    let a = replies::walk(walks::discover_path(descriptions, survey, stand, output));
     *answer = a;
 }
 
@@ -210,7 +214,8 @@ pub extern "C" fn tunnels_discover(
 )
     ensures { DiscoverSaid descriptions.now survey.now place adapter output.old output.new answer.new }
 {
-    let a = findings::tunnels(discoveries::discover(descriptions, survey, place, adapter, output));
+    let site = Site { place, adapter };
+    let a = answers::perhaps(discoveries::discover(descriptions, survey, site, output));
     *answer = a;
 }
 
@@ -219,7 +224,7 @@ pub extern "C" fn tunnels_discover(
 pub extern "C" fn tunnels_text(text: &[u8], output: &mut [u32], answer: &mut [u64; 8])
     ensures { TextSaid text.now output.old output.new answer.new }
 {
-    let a = answers::text(text::read(text, output));
+    let a = answers::always(text::read(text, output));
     *answer = a;
 }
 

@@ -9,24 +9,24 @@ use native.Mathlib.Omega.{arith}
 use native.Mathlib.Decide.{dec_lt}
 use lib.Dec.{eqb}
 use lib.ListN.{length}
-use borrow.Author.Tests.{eq-eqb, ne_eqb, eqb-true}
+use borrow.Author.Tests.{eqb-true}
 use Rattle.refusal.specs.Outcome.{Outcome, refused, value, bind}
 use Rattle.refusal.specs.Refusal.{refusal_of}
-use Rattle.refusal.specs.declared.Fault.{Fault}
 use Rattle.refusal.specs.declared.Fault.TheVariants.{NoParentRoute, NoDownstreamRoute, NoOutAdapter}
 use Rattle.usb4.specs.Numbers.{type_number}
 use Rattle.usb4.specs.declared.AdapterType.{AdapterType}
 use Rattle.usb4.specs.declared.AdapterType.TheVariants as type
 use Rattle.route.specs.Route.{upstream_route, downstream_route, downstream_adapter}
 use Rattle.adapter.specs.Adapter.{AdapterRow, adapter_site, is_lane}
-use Rattle.tables.specs.Rows.{EntryRow, DeviceRow, Rows, adapter_in, device_in, is_router, router_from}
-use Rattle.tables.specs.Packed.{Sorted, adapter_unit, adapters_in, device_word, devices_from, devices_in}
-use Rattle.tables.proofs.Laws.{device_past_routes}
+use Rattle.tables.specs.Rows.{DeviceRow, Rows, adapter_in, device_in, is_router, router_from}
+use Rattle.tables.specs.Packed.{Sorted, adapter_unit, adapters_in, device_row, devices_from, devices_in}
+use Rattle.tables.proofs.Laws.{device_past, has_number}
 use Rattle.search.specs.Lanes.{lane_if, LaneSought}
 use Rattle.load.specs.Answers.{present, asked_device}
 use Rattle.fabric.specs.Links.{is_upstream, upstream_route_of, downstream_route_of, route_or}
 use Rattle.fabric.specs.Fabric.{Way, Way.on, Way.last, Way.dropped, stand_by, up_by, arrive_up, down_by, arrive_down, to_device, to_router, to_route, leads_from, leads_by, leads}
 use Rattle.tables.specs.declared.Tables.{Tables}
+use Rattle.tables.specs.declared.DeviceFacts.{DeviceFacts}
 use Rattle.tables.specs.Tables.{InOrder, rows_of}
 use Rattle.fabric.specs.Tables.{lane_leads}
 
@@ -76,34 +76,33 @@ module _ (p : ℕ) (d : DeviceRow) (x : AdapterRow) where
 -- ---- devices of tables
 
 -- a device that is there, and a router that is found, have a place below the number of devices
-pub device_below : (ro ma : List ℕ) (q : ℕ) (d : DeviceRow) → device_in (devices_in ro ma) q ≡ Some d → q < length ro
-device_below ro ma q d e = go (dec_lt q (length ro))
+pub device_below : (ds : List DeviceFacts) (q : ℕ) (d : DeviceRow) → device_in (devices_in ds) q ≡ Some d → q < length ds
+device_below ds q d e = go (dec_lt q (length ds))
   where
-    go : Dec (q < length ro) → q < length ro
+    go : Dec (q < length ds) → q < length ds
     go (yes l) = l
-    go (no l) = absurd (none-some d (device_past_routes 0 ro ma q (omega arith) ∙ e))
+    go (no l) = absurd (none-some d (device_past 0 ds q (omega arith) ∙ e))
 
-router_from_lem : (p : ℕ) (ro ma : List ℕ) (domain route q : ℕ) → router_from p (devices_from p ro ma) domain route ≡ Some q → q < p + length ro
+router_from_lem : (p : ℕ) (ds : List DeviceFacts) (domain route q : ℕ) → router_from p (devices_from p ds) domain route ≡ Some q → q < p + length ds
 unfolding router_from devices_from
-router_from_lem p [] ma domain route q e = absurd (none-some q e)
-router_from_lem p (r ∷ rs) [] domain route q e = absurd (none-some q e)
-router_from_lem p (r ∷ rs) (m ∷ ms) domain route q e =
-    go (is_router (device_word p r m) && eqb (device_word p r m).domain domain && eqb (device_word p r m).route route) (router_from_lem (suc p) rs ms domain route q) e
+router_from_lem p [] domain route q e = absurd (none-some q e)
+router_from_lem p (d ∷ ds) domain route q e =
+    go (is_router (device_row p d) && eqb (device_row p d).domain domain && eqb (device_row p d).route route) (router_from_lem (suc p) ds domain route q) e
   where
-    go : (b : Bool) → (router_from (suc p) (devices_from (suc p) rs ms) domain route ≡ Some q → q < suc p + length rs)
-        → cond b (Some p) (router_from (suc p) (devices_from (suc p) rs ms) domain route) ≡ Some q → q < p + suc (length rs)
+    go : (b : Bool) → (router_from (suc p) (devices_from (suc p) ds) domain route ≡ Some q → q < suc p + length ds)
+        → cond b (Some p) (router_from (suc p) (devices_from (suc p) ds) domain route) ≡ Some q → q < p + suc (length ds)
     go true next g = omega (arith, same_Some p q g)
     go false next g = omega (arith, next g)
 
-pub router_below : (ro ma : List ℕ) (domain route q : ℕ) → router_from 0 (devices_in ro ma) domain route ≡ Some q → q < length ro
-router_below ro ma domain route q e = omega (arith, router_from_lem 0 ro ma domain route q e)
+pub router_below : (ds : List DeviceFacts) (domain route q : ℕ) → router_from 0 (devices_in ds) domain route ≡ Some q → q < length ds
+router_below ds domain route q e = omega (arith, router_from_lem 0 ds domain route q e)
 
 -- in tables that are in order, such a place fits a key
-pub device_fits : (tables : Tables) (q : ℕ) (d : DeviceRow) → InOrder tables → Some d ≡ device_in (devices_in tables.routes.now tables.marks.now) q → q < 65536
-device_fits tables q d k e = omega (arith, k.devices, device_below tables.routes.now tables.marks.now q d (sym e))
+pub device_fits : (tables : Tables) (q : ℕ) (d : DeviceRow) → InOrder tables → Some d ≡ device_in (devices_in tables.devices.now) q → q < 65536
+device_fits tables q d k e = omega (arith, k.devices, device_below tables.devices.now q d (sym e))
 
-pub router_fits : (tables : Tables) (domain route q : ℕ) → InOrder tables → Some q ≡ router_from 0 (devices_in tables.routes.now tables.marks.now) domain route → q < 65536
-router_fits tables domain route q k e = omega (arith, k.devices, router_below tables.routes.now tables.marks.now domain route q (sym e))
+pub router_fits : (tables : Tables) (domain route q : ℕ) → InOrder tables → Some q ≡ router_from 0 (devices_in tables.devices.now) domain route → q < 65536
+router_fits tables domain route q k e = omega (arith, k.devices, router_below tables.devices.now domain route q (sym e))
 
 -- ---- where a hop leads
 
@@ -117,17 +116,6 @@ lane_some : (y : Option AdapterRow) (b : Bool) → Some b ≡ lane_if y → (z :
 unfolding lane_if
 lane_some None b e = absurd (none-some b (sym e))
 lane_some (Some y) b e = (y, refl, sym (same_Some b (is_lane y.kind) e))
-
-has_number : (xs : List AdapterRow) (p a : ℕ) (z : AdapterRow) → adapter_in xs p a ≡ Some z → z.number ≡ a
-unfolding adapter_in
-has_number [] p a z e = absurd (none-some z e)
-has_number (x ∷ xs) p a z e = go (eqb x.device p) (eqb x.number a) refl (has_number xs p a z) e
-  where
-    go : (b c : Bool) → eqb x.number a ≡ c → (adapter_in xs p a ≡ Some z → z.number ≡ a) → cond (b && c) (Some x) (adapter_in xs p a) ≡ Some z → z.number ≡ a
-    go true true q rest f = sym (ap (λ (y : AdapterRow). y.number) (same_Some x z f)) ∙ eqb-true x.number a q
-    go true false q rest f = rest f
-    go false true q rest f = rest f
-    go false false q rest f = rest f
 
 -- at an adapter that was sought
 module _ (t : List ℕ) (q n : ℕ) (r : Option Bool) (h : LaneSought t q n r) (s : Sorted adapter_unit t) (l : q < 65536) where
@@ -198,7 +186,7 @@ module _ (x : Rows) (p o : ℕ) where
   leads_there d y e g = ap (leads_by x p o d) g ∙ ap (λ (z : Option DeviceRow). bind (present z) (λ v. leads_by x p o v (adapter_in x.adapters p o))) e
 
 -- from a device by an out adapter that was sought
-module _ (tables : Tables) (p o : ℕ) (k : InOrder tables) (d : DeviceRow) (there : Some d ≡ device_in (devices_in tables.routes.now tables.marks.now) p) (r : Option Bool) (h : LaneSought tables.adapters.now p o r) where
+module _ (tables : Tables) (p o : ℕ) (k : InOrder tables) (d : DeviceRow) (there : Some d ≡ device_in (devices_in tables.devices.now) p) (r : Option Bool) (h : LaneSought tables.adapters.now p o r) where
   abbrev at : Rows
   at = rows_of tables
 

@@ -1,5 +1,5 @@
 -- Document 01, module 6: the routes of a router's adapters, on rows. Assumes nothing.
-use Rattle.std.specs.Prelude.{ℕ, Bool, false, cond, ◌&&◌, eqb, Option, None, Some, Err, Ok, Result}
+use Rattle.std.specs.Prelude.{ℕ, Bool, false, cond, ◌&&◌, eqb, Option, None, Some}
 use Rattle.refusal.specs.Outcome.{Outcome, refused, value}
 use Rattle.refusal.specs.Refusal.{refusal_of}
 use Rattle.refusal.specs.declared.Fault.{Fault}

@@ -25,7 +25,7 @@ unfoldable pub next_outcome : Result Next WalkError → Outcome Way
 next_outcome (Ok n) = value (way_of n)
 next_outcome (Err e) = refused_by (of_walk e)
 
--- In tables that are in order it is what f says of their rows. In any others it is free, but that it is a fault or 14.
+-- In tables that are in order it is what f says of their rows. In any others it is free, but that it is a fault or 14 where it is refused.
 pub record LeadsTo (tables : Tables) (f : Rows → Outcome Way) (r : Result Next WalkError) : Type 0 where
   pub leads_to : InOrder tables → next_outcome r ≡ f (rows_of tables)
 

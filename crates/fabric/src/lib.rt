@@ -4,7 +4,7 @@
 ghost use Rattle.std.specs.Prelude.{ℕ, ◌<◌, ◌≡◌, Some, Ok};
 ghost use Rattle.refusal.specs.Refusal.{field_at};
 ghost use Rattle.refusal.specs.declared.Site.{Site};
-ghost use Rattle.tables.specs.Found.{device_row};
+ghost use Rattle.tables.specs.Packed.{device_row};
 ghost use Rattle.tables.specs.Tables.{InOrder, rows_of};
 ghost use Rattle.fabric.specs.Links.{is_upstream};
 ghost use Rattle.fabric.specs.Fabric.{stand_at, arrive_up, arrive_down, to_route, leads};

@@ -15,7 +15,7 @@ alike [] (b ∷ ys) = false
 alike (a ∷ xs) [] = false
 alike (a ∷ xs) (b ∷ ys) = eqb (lower a) (lower b) && alike xs ys
 
--- the register group at i has the name; the word at i is taken as its head
+-- the register group at i has the name; a word of a register's kind is taken as its head
 unfoldable pub name_is : List ℕ → ℕ → List ℕ → Bool
 name_is t i name = is_register t i && alike (described t i).name name
 

@@ -42,7 +42,7 @@ fn same_name(t: &[u32], p: usize, n: u32, name: &[u8]) -> bool
     true
 }
 
-// Whether the register group at a place has the name. Where no register's head stands, the word there is taken as one.
+// Whether the register group at a place has the name. A word of a register's kind is taken as its head, wherever it stands; any other has no name.
 pub fn name_is(descriptions: &[u32], place: usize, name: &[u8]) -> bool
     ensures { result ≡ name_is descriptions.now place name.now }
 {
@@ -73,7 +73,7 @@ fn field_is(t: &[u32], i: usize, name: &[u8]) -> bool
     same_name(t, i + 1 + layout::name_words(n), s, name)
 }
 
-// The first field with the name, of those behind the register group at a place. The words need not be well formed; where no register's head stands, the word there is taken as one.
+// The first field with the name, of those behind the register group at a place. The words need not be well formed; the word at the place is taken as a head of its own kind, behind whose group the fields stand.
 pub fn find_field(descriptions: &[u32], place: usize, name: &[u8]) -> Option<BitField>
     ensures { result ≡ find_field name.now (fields_behind descriptions.now place) }
 {

@@ -11,18 +11,9 @@ pub fn min_hop(kind: AdapterType) -> Option<u32>
     ensures { result ≡ min_hop kind }
 {
     match kind {
-        AdapterType::Unknown => None,
-        AdapterType::Inactive => None,
-        AdapterType::Lane => Some(8),
+        AdapterType::Unknown | AdapterType::Inactive => None,
         AdapterType::HostInterface => Some(1),
-        AdapterType::DisplayPortIn => Some(8),
-        AdapterType::DisplayPortOut => Some(8),
-        AdapterType::PcieDown => Some(8),
-        AdapterType::PcieUp => Some(8),
-        AdapterType::Usb3Down => Some(8),
-        AdapterType::Usb3Up => Some(8),
-        AdapterType::Usb3GenTDown => Some(8),
-        AdapterType::Usb3GenTUp => Some(8),
+        _ => Some(8),
     }
 }
 

@@ -3,7 +3,7 @@
 
 ghost use Rattle.std.specs.Prelude.{◌≡◌};
 ghost use Rattle.adapter.specs.Adapter.{facts_row};
-ghost use Rattle.tables.specs.Found.{device_row};
+ghost use Rattle.tables.specs.Packed.{device_row};
 ghost use Rattle.fabric.specs.Links.{upstream_route_of, downstream_route_of};
 ghost use Rattle.refusal.specs.Refusal.{fault_outcome};
 

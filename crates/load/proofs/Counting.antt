@@ -1,46 +1,58 @@
 -- Laws on the numbers of rows that a survey loads to. Assumes nothing.
-use Prim.Native.Nat.{ℕ, suc, ◌≤◌}
+use Prim.Native.Nat.{ℕ, suc, ◌+◌}
 use native.Mathlib.Omega.{arith}
-use mathlib.Core.Path.{◌≡◌, refl, sym, ap, ◌∙◌}
+use mathlib.Core.Path.{◌≡◌, refl, sym}
+use mathlib.Core.Bool.{Bool, not, ◌&&◌}
 use mathlib.Core.List.{List, [], ◌∷◌}
-use lib.ListN.{length, take, length-map}
-use lib.Seq.{length-take-le}
-use Rattle.refusal.specs.Outcome.{Outcome, value, bind}
-use Rattle.tables.specs.Rows.{Rows}
-use Rattle.tables.specs.Packed.{entry_word, adapter_word, entries_in, adapters_in, devices_from, devices_in}
-use Rattle.load.specs.Answers.{rows_by, UsedBy, counts_of}
-use Rattle.load.specs.declared.Counts.{Counts}
-use Rattle.refusal.specs.Refusal.{outcome}
-use Rattle.refusal.proofs.Laws.{refused_bind}
-use Rattle.refusal.specs.declared.Refusal.{Refusal}
-use Rattle.std.specs.Prelude.{Err, Ok, Result}
+use lib.Dec.{eqb}
+use lib.ListN.{length, length-append}
+use Rattle.refusal.specs.Outcome.{Outcome, value}
+use Rattle.layout.specs.Description.{Description}
+use Rattle.survey.specs.Devices.{Adapter, Device}
+use Rattle.adapter.specs.Adapter.{adapter_site, decode_of}
+use Rattle.adapter.specs.Paths.{entries_of}
+use Rattle.tables.specs.Rows.{Rows, joined}
+use Rattle.load.specs.Loading.{missing, and_then, own_rows, load_adapter, load_adapters, device_rows, fits, no_registers, load_device, load_from}
+use Rattle.load.proofs.Order.{Holds, holds_value, holds_bind, holds_map, holds_any, holds_fault, holds_cond}
 
-devices_length : (p : ℕ) (rs ms : List ℕ) → length rs ≡ length ms → length (devices_from p rs ms) ≡ length rs
-unfolding devices_from
-devices_length p [] ms e = refl
-devices_length p (r ∷ rs) [] e = absurd (omega arith)
-devices_length p (r ∷ rs) (m ∷ ms) e = ap suc (devices_length (suc p) rs ms (omega arith))
+pub devices_add : (x y : Rows) → length (joined x y).devices ≡ length x.devices + length y.devices
+unfolding joined
+devices_add x y = length-append x.devices y.devices
 
-module _ (en ad ro ma : List ℕ) (le : length en ≡ 4096) (la : length ad ≡ 16384) (lr : length ro ≡ 4096) (lm : length ma ≡ 4096) where
-  entry_count : (e : ℕ) → e ≤ 4096 → length (entries_in (take e en)) ≡ e
-  entry_count e h = length-map (take e en) entry_word ∙ length-take-le e en (omega (arith, le, h))
+-- a device loads to one device row
+abbrev DeviceCount : ℕ → Rows → Type 0
+DeviceCount n x = length x.devices ≡ n
 
-  adapter_count : (a : ℕ) → a ≤ 16384 → length (adapters_in (take a ad)) ≡ a
-  adapter_count a h = length-map (take a ad) adapter_word ∙ length-take-le a ad (omega (arith, la, h))
+count_then : (n m : ℕ) (a b : Outcome Rows) → Holds (DeviceCount n) a → Holds (DeviceCount m) b → Holds (DeviceCount (n + m)) (and_then a b)
+unfolding and_then
+count_then n m a b h k = holds_bind a _ h (λ x e. holds_bind b _ k (λ y f. holds_value (omega (arith, devices_add x y))))
 
-  device_count : (d : ℕ) → d ≤ 4096 → length (devices_in (take d ro) (take d ma)) ≡ d
-  device_count d h =
-      let f = length-take-le d ro (omega (arith, lr, h)) in
-      let g = length-take-le d ma (omega (arith, lm, h)) in
-      devices_length 0 (take d ro) (take d ma) (f ∙ sym g) ∙ f
+module _ (ds : List Description) (p : ℕ) where
+  count_adapters : (usb4 : Bool) (xs : List Adapter) → Holds (DeviceCount 0) (load_adapters ds p usb4 xs)
+  unfolding load_adapters load_adapter own_rows
+  count_adapters usb4 [] = holds_value refl
+  count_adapters usb4 (a ∷ xs) =
+      count_then 0 0 (load_adapter ds p usb4 a) (load_adapters ds p usb4 xs)
+      (holds_bind (decode_of ds p usb4 a) _ holds_any (λ x z. holds_cond (eqb a.paths missing && not x.lane1) _ _ (λ t. holds_fault _) (λ t. holds_bind (entries_of ds (adapter_site p a.number) a) _ holds_any (λ es z. holds_value refl))))
+      (count_adapters usb4 xs)
 
-  counted_lem : (r : Result Counts Refusal) → UsedBy en ad r → outcome r ≡ bind (rows_by en ad ro ma r) (λ x. value (counts_of x))
-  unfolding counts_of rows_by UsedBy bind
-  counted_lem (Ok c) u =
-      ap (λ k. value (record { entries = k; adapters = c.adapters; devices = c.devices })) (sym (entry_count c.entries u.entries))
-      ∙ ap (λ k. value (record { entries = length (entries_in (take c.entries en)); adapters = k; devices = c.devices })) (sym (adapter_count c.adapters u.adapters))
-      ∙ ap (λ k. value (record { entries = length (entries_in (take c.entries en)); adapters = length (adapters_in (take c.adapters ad)); devices = k })) (sym (device_count c.devices u.devices))
-  counted_lem (Err r) u = sym (refused_bind r (λ x. value (counts_of x)))
+  count_device : (d : Device) → Holds (DeviceCount 1) (load_device ds p d)
+  unfolding load_device device_rows
+  count_device d =
+      holds_cond (no_registers d) _ _ (λ t. holds_fault _)
+      (λ t. holds_bind (fits ds p d d.adapters) _ holds_any (λ ok z. count_then 1 0 (value (device_rows ds p d)) (load_adapters ds p d.usb4 d.adapters) (holds_value refl) (count_adapters d.usb4 d.adapters)))
 
-  pub counted : (r : Result Counts Refusal) (o : Outcome Rows) → rows_by en ad ro ma r ≡ o → UsedBy en ad r → outcome r ≡ bind o (λ x. value (counts_of x))
-  counted r o e u = counted_lem r u ∙ ap (λ z. bind z (λ x. value (counts_of x))) e
+-- so where a device was put, there is one more
+pub device_more : (ds : List Description) (p : ℕ) (d : Device) (x y : Rows) → value y ≡ and_then (value x) (load_device ds p d) → length y.devices ≡ suc (length x.devices)
+device_more ds p d x y e =
+    let n = (count_then (length x.devices) 1 (value x) (load_device ds p d) (holds_value refl) (count_device ds p d)).by y (sym e) in
+    omega (arith, n)
+
+count_devices : (ds : List Description) (p : ℕ) (xs : List Device) → Holds (DeviceCount (length xs)) (load_from ds p xs)
+unfolding load_from
+count_devices ds p [] = holds_value refl
+count_devices ds p (x ∷ xs) =
+    holds_map (count_then 1 (length xs) (load_device ds p x) (load_from ds (suc p) xs) (count_device ds p x) (count_devices ds (suc p) xs)) (λ r e. omega arith)
+
+pub devices_count : (ds : List Description) (p : ℕ) (xs : List Device) (x : Rows) → load_from ds p xs ≡ value x → length x.devices ≡ length xs
+devices_count ds p xs x e = (count_devices ds p xs).by x e

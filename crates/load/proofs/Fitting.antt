@@ -21,13 +21,12 @@ use Rattle.survey.specs.Devices.{Adapter, register_in}
 use Rattle.listing.specs.After.{after, register_at, device_at}
 use Rattle.numbering.specs.Numbered.{numbered}
 use Rattle.named.specs.Named.{Named, router_space, by_name, sited, wanted_field, named_at, Within, named_in}
-use Rattle.refusal.specs.Refusal.{field_read, fault_outcome, field_at}
+use Rattle.refusal.specs.Refusal.{field_read}
 use Rattle.named.specs.declared.NamedAt.{NamedAt}
 use Rattle.named.proofs.Laws.{wanted_field_lem}
 use Rattle.adapter.specs.Adapter.{adapter_site}
 use Rattle.load.specs.Loading.{itself, router_cs1, upstream_in, fitting}
 use Rattle.load.specs.Work.{fits_by}
-use Rattle.refusal.specs.Refusal.{fault_outcome, field_at}
 use Rattle.refusal.specs.declared.FieldError.{FieldError}
 use Rattle.refusal.specs.declared.FieldError.TheVariants as field
 

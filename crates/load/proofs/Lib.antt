@@ -7,4 +7,5 @@ pub mod Joining
 pub mod One
 pub mod Order
 pub mod Packing
+pub mod Putting
 pub mod Result

@@ -3,17 +3,16 @@ use Prim.Native.Nat.{ℕ, ◌/◌, ◌%◌, ◌≤◌}
 use native.Mathlib.Omega.{arith}
 use mathlib.Core.Path.{◌≡◌, refl, sym, ap, ◌∙◌, subst}
 use mathlib.Core.Bool.{Bool, true, false, cond, not, ◌&&◌}
-use mathlib.Core.List.{List, [], ◌∷◌, map, ◌++◌}
+use mathlib.Core.List.{List}
 use Rattle.std.specs.Prelude.{Option, None, Some, Err, Ok, Result}
 use lib.Dec.{leb, eqb}
-use lib.ListN.{take}
 use borrow.Author.Tests.{leb-true, ne_eqb}
 use Rattle.refusal.proofs.Laws.{fault_bind}
 use Rattle.refusal.specs.Outcome.{Outcome, refused, value, bind}
 use Rattle.refusal.specs.Refusal.{at, refusal_of, field_at}
 use Rattle.refusal.specs.declared.Site.{Site}
 use Rattle.refusal.specs.declared.Fault.{Fault}
-use Rattle.refusal.specs.declared.Fault.TheVariants.{FewRegisters, NoField, NoPathDump}
+use Rattle.refusal.specs.declared.Fault.TheVariants.{FewRegisters, NoPathDump}
 use Rattle.usb4.specs.Numbers.{type_number}
 use Rattle.usb4.specs.declared.State.{State}
 use Rattle.layout.specs.Layout.{word}
@@ -24,15 +23,13 @@ use Rattle.named.specs.Named.{Named}
 use Rattle.adapter.specs.Adapter.{kind_of, min_hop, narrow, max_hop_in, max_hop, parse_state, AdapterRow, adapter_site, few_registers, row_of, decode_of, facts_row, decoded_outcome}
 use Rattle.adapter.specs.Paths.{PathEntry, entries_by, entries_of}
 use Rattle.adapter.specs.declared.Facts.{Facts}
-use Rattle.tables.specs.Rows.{EntryRow, Rows, no_rows, joined}
-use Rattle.tables.specs.Packed.{adapter_word, entries_in}
-use Rattle.load.specs.Loading.{and_then, owned, own_rows, load_adapter}
-use Rattle.load.specs.Work.{HopFits, rows_so_far, pushed_rows, PushedWithin, adapter_rows, AdapterWithin}
+use Rattle.tables.specs.Rows.{Rows, joined}
+use Rattle.load.specs.Loading.{and_then, own_rows, load_adapter}
+use Rattle.load.specs.Answers.{answered}
+use Rattle.load.specs.Work.{HopFits, one_adapter, entry_rows}
+use Rattle.load.proofs.Joining.{then_joined}
 use Rattle.refusal.specs.declared.FieldError.{FieldError}
 use Rattle.refusal.specs.declared.FieldError.TheVariants as field
-use Rattle.load.specs.Work.{pushed_to}
-use Rattle.load.specs.Work.{adapter_loaded}
-use Rattle.load.specs.declared.Pushed.{Pushed}
 
 -- a value is no refusal, and has one value
 abbrev is_value : {A : Type 0} → Outcome A → Type 0
@@ -70,22 +67,6 @@ hop_fits s z (Ok (Some v)) None e = let y : ◌≡◌ {A = Option ℕ} (Some v) 
 hop_fits s z (Ok (Some v)) (Some n) e = field_fits v _ e
 hop_fits s z (Ok None) o e = omega arith
 hop_fits s z (Err field.NoField) o e = omega arith
-
--- entries, then rows: refused by the entries' refusal, or made of them
-module _ (so : Rows) (h : List PathEntry → Rows) where
-  abbrev joins : Outcome Rows → Outcome Rows
-  joins o = bind o (λ y. value (joined so y))
-
-  through_refusal : (o : Outcome (List PathEntry)) (g : List PathEntry → List EntryRow) (n : ℕ) (vs : List ℕ) → refused n vs ≡ bind o (λ es. value (g es)) → refused n vs ≡ joins (bind o (λ es. value (h es)))
-  unfolding bind
-  through_refusal (refused m ws) g n vs e = ap (λ x. bind x (λ y. value no_rows)) e
-  through_refusal (value es) g n vs e = absurd (no_value _ n vs (sym e))
-
-  through_value : (o : Outcome (List PathEntry)) (g : List PathEntry → List EntryRow) (x : List EntryRow) → value x ≡ bind o (λ es. value (g es))
-      → (k : List EntryRow → Rows) → ((es : List PathEntry) → k (g es) ≡ joined so (h es)) → value (k x) ≡ joins (bind o (λ es. value (h es)))
-  unfolding bind
-  through_value (refused m ws) g x e k q = absurd (no_value x m ws e)
-  through_value (value es) g x e k q = ap (λ z. value (k z)) (same_value _ _ e) ∙ ap value (q es)
 
 and_false : (b : Bool) → (b && false) ≡ false
 and_false true = refl
@@ -157,48 +138,43 @@ module _ (ds : List Description) (p : ℕ) (usb4 : Bool) (a : Adapter) where
         pub dump_lane1 : not f.lane1 ≡ false → (eqb a.paths 2 && not f.lane1) ≡ false
         dump_lane1 l = ap (λ b. eqb a.paths 2 && b) l ∙ and_false (eqb a.paths 2)
 
-      -- its entries are put behind those so far, of the words before
-      module _ (l : (eqb a.paths 2 && not f.lane1) ≡ false) (before en : List ℕ) (q : Result Pushed FieldError)
-          (z : pushed_rows (its_site f.number) en q ≡ bind (entries_by ds (its_site f.number) (type_number f.kind) a.entries (min_hop f.kind)) (λ es. value (entries_in before ++ map (owned p f.number) es))) where
+      -- its row is put, and then its entries
+      module _ (l : (eqb a.paths 2 && not f.lane1) ≡ false) (so y : Rows) (put : y ≡ joined so (one_adapter (facts_row p f))) (q : Result ℕ FieldError) (z : Rows)
+          (is : answered (field_at (its_site f.number) q) z ≡ and_then (value y) (entry_rows (its_site f.number) (entries_by ds (its_site f.number) (type_number f.kind) a.entries (min_hop f.kind)))) where
         abbrev entries : Outcome (List PathEntry)
         entries = entries_of ds (adapter_site p a.number) a
 
-        by_entries : pushed_rows (its_site f.number) en q ≡ bind entries (λ es. value (entries_in before ++ map (owned p f.number) es))
+        by_entries : entry_rows (its_site f.number) (entries_by ds (its_site f.number) (type_number f.kind) a.entries (min_hop f.kind)) ≡ entry_rows (its_site f.number) entries
         unfolding entries_of adapter_site
         by_entries =
-            z ∙ ap (λ n. bind (entries_by ds (its_site n) (type_number f.kind) a.entries (min_hop f.kind)) (λ es. value (entries_in before ++ map (owned p f.number) es))) its_number
-            ∙ ap (λ k. bind (entries_by ds (its_site a.number) (type_number k) a.entries (min_hop k)) (λ es. value (entries_in before ++ map (owned p f.number) es))) its_kind
+            ap (λ n. entry_rows (its_site f.number) (entries_by ds (its_site n) (type_number f.kind) a.entries (min_hop f.kind))) its_number
+            ∙ ap (λ k. entry_rows (its_site f.number) (entries_by ds (its_site a.number) (type_number k) a.entries (min_hop k))) its_kind
 
-        to_loads : (so : Rows) → bind (bind entries (λ es. value (own_rows p (facts_row p f) es))) (λ y. value (joined so y)) ≡ loads so
-        unfolding bind facts_row
-        to_loads so =
+        row_first : (o : Outcome (List PathEntry)) → and_then (value (one_adapter (facts_row p f))) (entry_rows (its_site f.number) o) ≡ bind o (λ es. value (own_rows p (facts_row p f) es))
+        unfolding and_then bind joined own_rows facts_row
+        row_first (refused n vs) = refl
+        row_first (value es) = refl
+
+        to_loads : and_then (value so) (bind entries (λ es. value (own_rows p (facts_row p f) es))) ≡ loads so
+        unfolding and_then bind facts_row
+        to_loads =
             ap (λ b. bind (cond b (refusal_of (NoPathDump (adapter_site p a.number))) (bind entries (λ es. value (own_rows p (facts_row p f) es)))) (λ y. value (joined so y))) (sym l)
             ∙ by_decode so (value (facts_row p f)) is_row
 
-        pub entries_refused : q ≡ (Err field.NoField) → (so : Rows) → refusal_of (NoField (its_site f.number)) ≡ loads so
-        unfolding pushed_rows refusal_of
-        entries_refused m so =
-            through_refusal so (own_rows p (facts_row p f)) entries (λ es. entries_in before ++ map (owned p f.number) es) 6 (at (its_site f.number)) (ap (pushed_rows (its_site f.number) en) (sym m) ∙ by_entries)
-            ∙ to_loads so
+        pub entries_put : (o : Result ℕ FieldError) → q ≡ o → answered (field_at (its_site f.number) o) z ≡ loads so
+        entries_put o e =
+            ap (λ r. answered (field_at (its_site f.number) r) z) (sym e) ∙ is
+            ∙ ap (λ x. and_then (value x) (entry_rows (its_site f.number) (entries_by ds (its_site f.number) (type_number f.kind) a.entries (min_hop f.kind)))) put
+            ∙ then_joined so (one_adapter (facts_row p f)) _
+            ∙ ap (λ o. and_then (value so) (and_then (value (one_adapter (facts_row p f))) o)) by_entries
+            ∙ ap (λ o. and_then (value so) o) (row_first entries)
+            ∙ to_loads
 
-        pub entries_loaded : (c next : ℕ) → q ≡ pushed_to c next → (x : ℕ) → adapter_word x ≡ facts_row p f → adapter_rows en (adapter_loaded x c next) ≡ loads (rows_so_far before [])
-        unfolding pushed_rows adapter_rows rows_so_far own_rows joined facts_row
-        entries_loaded c next m x e =
-            through_value (rows_so_far before []) (own_rows p (facts_row p f)) entries (λ es. entries_in before ++ map (owned p f.number) es) (entries_in (take c en)) (ap (pushed_rows (its_site f.number) en) (sym m) ∙ by_entries)
-            (λ l. record { entries = l; adapters = adapter_word x ∷ []; devices = [] })
-            (λ es. ap (λ y. record { entries = entries_in before ++ map (owned p f.number) es; adapters = y ∷ []; devices = [] }) e)
-            ∙ to_loads (rows_so_far before [])
-
--- the head's two bits, and where the words of the adapter end
+-- the head's two bits
 pub its_paths : (t : List ℕ) (i w : ℕ) → w ≡ word t i → w / 512 % 4 ≡ (adapter_at t i).paths
 unfolding adapter_at
 its_paths t i w e = ap (λ z. z / 512 % 4) e
 
-pub its_end : (t : List ℕ) (i : ℕ) (q : Result Pushed FieldError) → PushedWithin t i q → (c next : ℕ) → q ≡ pushed_to c next → (x : ℕ) → AdapterWithin t i (adapter_loaded x c next)
-unfolding PushedWithin AdapterWithin
-its_end t i q h c next k x = subst (PushedWithin t i) k h
-
 -- the answer to a refusal
-pub refuses : (en t : List ℕ) (i : ℕ) (x : Fault) (o : Outcome Rows) → refusal_of x ≡ o → (adapter_rows en (Err x) ≡ o) × AdapterWithin t i (Err x)
-unfolding adapter_rows AdapterWithin
-refuses en t i x o e = (e, omega arith)
+pub refuses : (f : Fault) (z : Rows) (o : Outcome Rows) → refusal_of f ≡ o → answered (refusal_of {A = ℕ} f) z ≡ o
+refuses f z o e = fault_bind f (λ b. value z) ∙ e

@@ -6,12 +6,8 @@ use mathlib.Core.Path.{◌≡◌, refl, ◌∙◌, ap, sym, subst}
 use mathlib.Core.Bool.{Bool, true, false}
 use Rattle.std.specs.Int.{from_bool}
 use lib.Dec.{eqb}
-use Rattle.refusal.specs.Outcome.{value}
 use Rattle.refusal.specs.declared.Site.{Site}
-use Rattle.usb4.specs.Numbers.{type_number, state_number, speed_number, device_kind_number}
-use Rattle.usb4.proofs.Laws.{kind_back}
-use Rattle.usb4.specs.declared.Kind.{Kind}
-use Rattle.usb4.specs.declared.Kind.TheVariants as kind
+use Rattle.usb4.specs.Numbers.{type_number, state_number, speed_number}
 use Rattle.usb4.specs.declared.AdapterType.{AdapterType}
 use Rattle.usb4.specs.declared.AdapterType.TheVariants as type
 use Rattle.usb4.specs.declared.State.{State}
@@ -20,7 +16,7 @@ use Rattle.usb4.specs.declared.Speed.{Speed}
 use Rattle.usb4.specs.declared.Speed.TheVariants as speed
 use Rattle.adapter.specs.Adapter.{adapter_site, facts_row}
 use Rattle.adapter.specs.declared.Facts.{Facts}
-use Rattle.tables.specs.Packed.{entry_word, speed_by, number_by, upstream_by, adapter_word, device_word}
+use Rattle.tables.specs.Packed.{entry_word, speed_by, number_by, adapter_word}
 use Rattle.tables.proofs.Laws.{type_round, state_round, speed_round}
 use Rattle.load.specs.Work.{HopFits}
 use Rattle.refusal.specs.declared.FieldError.{FieldError}
@@ -104,21 +100,6 @@ module _ (f : Result (Option ℕ) FieldError) where
   unfolding number_by
   hop_refused e = (omega arith, λ s. ap (λ x. field_at s x) (sym e))
 
-module _ (f : Result (Option ℕ) FieldError) where
-  pub upstream_told : (a : ℕ) → f ≡ Ok (Some a) → a < 256 → (a + 2 < 65536) × ((s : Site) → upstream_by s (a + 2) ≡ field_at s f)
-  unfolding upstream_by
-  upstream_told a e l =
-      let m : a % 256 ≡ a = omega arith in
-      (omega arith, λ s. ap (λ n. upstream_by s n) (two_more a) ∙ ap (λ n. value (Some n)) m ∙ ap (λ x. field_at s x) (sym e))
-
-  pub upstream_none : f ≡ (Ok None) → (0 < 65536) × ((s : Site) → upstream_by s 0 ≡ field_at s f)
-  unfolding upstream_by
-  upstream_none e = (omega arith, λ s. ap (λ x. field_at s x) (sym e))
-
-  pub upstream_refused : f ≡ (Err field.NoField) → (1 < 65536) × ((s : Site) → upstream_by s 1 ≡ field_at s f)
-  unfolding upstream_by
-  upstream_refused e = (omega arith, λ s. ap (λ x. field_at s x) (sym e))
-
 -- the parts of an adapter's word
 record Parts (w p a h k t v z o : ℕ) : Type 0 where
   device : w / 2 ^ 48 ≡ p
@@ -147,24 +128,3 @@ module _ (p h k t v z o : ℕ) (f : Facts) (la : f.number < 256)
     where
       m : Parts (p * 281474976710656 + f.number * 1099511627776 + h * 1048576 + k * 65536 + t * 4096 + v * 256 + z * 16 + o) p f.number h k t v z o
       m = parts _ p f.number h k t v z o refl la eh.0 (omega (arith, type_bound f.kind)) (omega (arith, state_bound f.state)) ev.0 (omega (arith, (flag_bit f.lane0 z ez).0)) (omega (arith, (flag_bit f.lane1 o eo).0))
-
--- a device's mark
-mark_parts : (w b k c d : ℕ) → w ≡ b * 4503599627370496 + k * 281474976710656 + c * 4294967296 + d → b < 16 → k < 16 → c < 65536 → d < 4294967296
-    → (w / 2 ^ 48 % 16 ≡ k) × (w / 2 ^ 52 % 16 ≡ b) × (w % 2 ^ 32 ≡ d) × (w / 2 ^ 32 % 2 ^ 16 ≡ c)
-mark_parts w b k c d e lb lk lc ld = (omega arith, omega arith, omega arith, omega arith)
-
-device_bound : (k : Kind) → device_kind_number k < 16
-device_bound kind.Domain = omega arith
-device_bound kind.Router = omega arith
-device_bound kind.Xdomain = omega arith
-device_bound kind.Retimer = omega arith
-device_bound kind.Service = omega arith
-device_bound kind.Unknown = omega arith
-
-module _ (k : Kind) (n d b c : ℕ) (usb4 : Bool) (f : Result (Option ℕ) FieldError) (en : n ≡ device_kind_number k) (ld : d < 4294967296) (eb : b ≡ from_bool usb4) (ec : (c < 65536) × ((s : Site) → upstream_by s c ≡ field_at s f)) where
-  pub mark_word : (p route : ℕ) → device_word p route (b * 4503599627370496 + n * 281474976710656 + c * 4294967296 + d) ≡ record { kind = k; usb4 = usb4; domain = d; route = route; upstream = field_at (adapter_site p 0) f }
-  unfolding device_word
-  mark_word p route =
-      let flag = flag_bit usb4 b eb in
-      let m = mark_parts _ b n c d refl (omega (arith, flag.0)) (omega (arith, en, device_bound k)) ec.0 ld in
-      rw (m.0, m.1, m.2, m.3, flag.1, en, kind_back k, ec.1 (adapter_site p 0)) refl

@@ -3,46 +3,55 @@ use Prim.Native.Nat.{ℕ}
 use native.Mathlib.Omega.{arith}
 use mathlib.Core.Path.{◌≡◌, refl, sym, ap, ◌∙◌, subst}
 use mathlib.Core.List.{List}
-use lib.ListN.{length, take}
-use lib.Seq.{length-take-le}
 use Rattle.std.specs.Prelude.{Result, Ok, Err, IfOk}
 use Rattle.std.proofs.lemmas.Result.{IfOk-at_ok}
 use Rattle.refusal.specs.Outcome.{Outcome, refused, value, bind}
-use Rattle.refusal.specs.Refusal.{outcome}
+use Rattle.refusal.specs.Refusal.{outcome, refused_by}
 use Rattle.refusal.specs.declared.Refusal.{Refusal}
 use Rattle.refusal.proofs.Laws.{refused_bind, ended, gone_on}
 use Rattle.tables.specs.Rows.{Rows}
-use Rattle.tables.specs.Packed.{entry_unit, adapter_unit, Sorted}
 use Rattle.tables.specs.Tables.{rows_of, Fits, Tabled}
 use Rattle.tables.specs.declared.Tables.{Tables}
-use Rattle.load.specs.Answers.{rows_by, Used, UsedBy, tables_rows, counts_of}
+use Rattle.tables.proofs.Laws.{rising_entries, rising_adapters}
+use Rattle.load.specs.Loading.{loaded}
+use Rattle.load.specs.Answers.{answered, LoadedBy, tables_rows, counts_of}
 use Rattle.load.specs.declared.Counts.{Counts}
+use Rattle.load.proofs.Order.{entries_rise, adapters_rise}
 
--- the parts of the tables that are used, by the invariant
-module _ (en ad : List ℕ) (r : Result Counts Refusal) (h : UsedBy en ad r) (x : Counts) (k : r ≡ Ok x) where
-  pub used : Used en ad x
-  unfolding UsedBy
-  used = subst (UsedBy en ad) k h
+-- tables of what a survey loads to are in order, and no larger than a survey's
+pub tables_in_order : (t : Tables) (x : Rows) (r : Result Unit Refusal) → rows_of t ≡ x → Fits t → LoadedBy r x → (u : Unit) → r ≡ Ok u → Fits t × Tabled t
+unfolding LoadedBy rows_of
+tables_in_order t x r e fits h u k =
+    let l : LoadedBy (Ok u) x = subst (λ r. LoadedBy r x) k h in
+    let is : loaded l.0 l.1 ≡ value (rows_of t) = l.2 ∙ ap (λ y. value y) (sym e) in (
+      fits,
+      record {
+        entries = rising_entries t.entries.now (entries_rise l.0 l.1 _ is);
+        others = record { adapters = rising_adapters t.adapters.now (adapters_rise l.0 l.1 _ is); devices = omega (arith, fits.sized.devices) };
+      },
+    )
 
-  pub used_fits : (ro : List ℕ) (t : Tables) → length en ≡ 4096 → length ad ≡ 16384 → length ro ≡ 4096 → t.entries.now ≡ take x.entries en → t.adapters.now ≡ take x.adapters ad → t.routes.now ≡ take x.devices ro → Fits t × Tabled t
-  used_fits ro t le la lr a b c =
-      let u = used in
-      let e = ap length a ∙ length-take-le x.entries en (omega (arith, le, u.entries)) in
-      let n = ap length b ∙ length-take-le x.adapters ad (omega (arith, la, u.adapters)) in
-      let d = ap length c ∙ length-take-le x.devices ro (omega (arith, lr, u.devices)) in (
-        record { sized = record { entries = omega (arith, e, u.entries); devices = omega (arith, d, u.devices) }; adapters = omega (arith, n, u.adapters) },
-        record { entry_order = subst (Sorted entry_unit) (sym a) u.entry_order; adapter_order = subst (Sorted adapter_unit) (sym b) u.adapter_order; devices = omega (arith, d, u.devices) },
-      )
+-- what was loaded can be handed out
+pub loaded_by : (t s : List ℕ) (r : Result Unit Refusal) (x : Rows) → answered (outcome r) x ≡ loaded t s → LoadedBy r x
+unfolding LoadedBy bind
+loaded_by t s (Ok u) x e = (t, s, sym e)
+loaded_by t s (Err r) x e = omega arith
 
--- what they hold, by the view
-module _ (en ad ro ma : List ℕ) (r : Result Counts Refusal) (o : Outcome Rows) (is : rows_by en ad ro ma r ≡ o) where
-  pub refused_rows : (e : Refusal) → r ≡ Err e → tables_rows (Err e) ≡ o
-  unfolding rows_by tables_rows
-  refused_rows e k = sym (ap (rows_by en ad ro ma) k) ∙ is
+-- what is answered of a loaded survey, by what it loads to
+module _ (q : Result Unit Refusal) (x : Rows) (o : Outcome Rows) (is : answered (outcome q) x ≡ o) where
+  pub refused_so : (r : Refusal) → q ≡ Err r → refused_by r ≡ o
+  refused_so r k = sym (refused_bind r (λ a. value x)) ∙ ap (λ p. answered (outcome p) x) (sym k) ∙ is
 
-  pub used_rows : (x : Counts) → r ≡ Ok x → (t : Tables) → t.entries.now ≡ take x.entries en → t.adapters.now ≡ take x.adapters ad → t.routes.now ≡ take x.devices ro → t.marks.now ≡ take x.devices ma → tables_rows (Ok t) ≡ o
-  unfolding rows_by tables_rows rows_of
-  used_rows x k t a b c d = rw (a, b, c, d) (sym (ap (rows_by en ad ro ma) k) ∙ is)
+  pub loaded_so : (u : Unit) → q ≡ Ok u → value x ≡ o
+  unfolding bind
+  loaded_so u k = ap (λ p. answered (outcome p) x) (sym k) ∙ is
+
+  pub counts_refused : (r : Refusal) → q ≡ Err r → outcome (Err r) ≡ bind o (λ y. value (counts_of y))
+  counts_refused r k = sym (refused_bind r (λ y. value (counts_of y))) ∙ ap (λ p. bind p (λ y. value (counts_of y))) (refused_so r k)
+
+  pub counts_answered : (u : Unit) → q ≡ Ok u → (c : Counts) → c ≡ counts_of x → outcome (Ok c) ≡ bind o (λ y. value (counts_of y))
+  unfolding bind
+  counts_answered u k c e = ap (λ n. value n) e ∙ ap (λ p. bind p (λ y. value (counts_of y))) (loaded_so u k)
 
 -- what `?` does of `tables`, by what the survey loads to
 module _ {B : Type 0} (q : Result Tables Refusal) (o : Outcome Rows) (is : tables_rows q ≡ o) (f : Rows → Outcome B) where
@@ -57,9 +66,6 @@ module _ {B : Type 0} (q : Result Tables Refusal) (o : Outcome Rows) (is : table
 -- tables that were answered are in order, and no larger than a survey's
 pub tables_fit : (q : Result Tables Refusal) (t : Tables) → q ≡ Ok t → IfOk q (λ t. Fits t × Tabled t) → Fits t × Tabled t
 tables_fit q t k h = IfOk-at_ok _ k h
-
-pub tables_marks : (q : Result Tables Refusal) (t : Tables) → q ≡ Ok t → IfOk q (λ t. length t.marks.now ≡ length t.routes.now) → length t.marks.now ≡ length t.routes.now
-tables_marks q t k h = IfOk-at_ok _ k h
 
 -- what `?` does of `accept`, by what the survey loads to
 module _ {B : Type 0} (q : Result Counts Refusal) (o : Outcome Rows) (is : outcome q ≡ bind o (λ x. value (counts_of x))) (f : Counts → Outcome B) where

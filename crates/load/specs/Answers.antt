@@ -1,31 +1,36 @@
 -- What loading answers, in document 01's numbers and values. Assumes nothing.
-use Rattle.std.specs.Prelude.{ℕ, ◌≤◌, List, [], length, take, Option, None, Some, Err, Result, Ok}
+use Rattle.std.specs.Prelude.{ℕ, ◌≤◌, ◌≡◌, List, [], length, take, Option, None, Some, Err, Result, Ok}
 use Rattle.refusal.specs.Outcome.{Outcome, refused, value, bind}
 use Rattle.refusal.specs.Refusal.{refused_by}
 use Rattle.adapter.specs.Adapter.{AdapterRow}
 use Rattle.tables.specs.Rows.{Rows, DeviceRow, adapter_in, device_in}
-use Rattle.tables.specs.Packed.{entries_in, adapters_in, devices_in, entry_unit, adapter_unit, Sorted}
+use Rattle.tables.specs.Packed.{entries_in, adapters_in, devices_in}
 use Rattle.tables.specs.Tables.{rows_of}
+use Rattle.tables.specs.declared.DeviceFacts.{DeviceFacts}
 use Rattle.tables.specs.declared.Tables.{Tables}
+use Rattle.load.specs.Loading.{loaded}
 use Rattle.load.specs.declared.Counts.{Counts}
 use Rattle.refusal.specs.declared.Refusal.{Refusal}
 
--- The rows that tables hold, as far as they are used. Free are the words past those, which of several codes for one meaning stands in a word, and, where loading is refused, all of them.
-unfoldable pub rows_by : List ℕ → List ℕ → List ℕ → List ℕ → Result Counts Refusal → Outcome Rows
-rows_by en ad ro ma (Ok x) = value (record { entries = entries_in (take x.entries en); adapters = adapters_in (take x.adapters ad); devices = devices_in (take x.devices ro) (take x.devices ma) })
-rows_by en ad ro ma (Err r) = refused_by r
+-- The rows that are held, as far as they are counted. Free is what stands past those, and which of several codes for one meaning stands in a word.
+unfoldable pub held : List ℕ → List ℕ → List DeviceFacts → Counts → Rows
+held en ad de c = record { entries = entries_in (take c.entries en); adapters = adapters_in (take c.adapters ad); devices = devices_in (take c.devices de) }
 
--- the parts of the tables that are used are there, and their keys don't fall
-pub record Used (en ad : List ℕ) (x : Counts) : Type 0 where
-  pub entries : x.entries ≤ 4096
-  pub adapters : x.adapters ≤ 16384
-  pub devices : x.devices ≤ 4096
-  pub entry_order : Sorted entry_unit (take x.entries en)
-  pub adapter_order : Sorted adapter_unit (take x.adapters ad)
+-- as many as there is room for, and how long the table of devices is
+pub record Counted (de : List DeviceFacts) (c : Counts) : Type 0 where
+  pub entries : c.entries ≤ 4096
+  pub adapters : c.adapters ≤ 16384
+  pub devices : c.devices ≤ 4096
+  pub long : length de ≡ 4096
 
-unfoldable pub UsedBy : List ℕ → List ℕ → Result Counts Refusal → Type 0
-UsedBy en ad (Ok x) = Used en ad x
-UsedBy en ad (Err r) = 0 ≤ 0
+-- the rows x where o is a value, else its refusal
+abbrev pub answered : {A : Type 0} → Outcome A → Rows → Outcome Rows
+answered o x = bind o (λ a. value x)
+
+-- rows that are answered are what a survey loads to under descriptions, so their keys don't fall
+unfoldable pub LoadedBy : Result Unit Refusal → Rows → Type 0
+LoadedBy (Ok u) x = (t : List ℕ) × (s : List ℕ) × (loaded t s ≡ value x)
+LoadedBy (Err r) x = 0 ≤ 0
 
 -- what tables that are answered hold, or the refusal
 unfoldable pub tables_rows : Result Tables Refusal → Outcome Rows

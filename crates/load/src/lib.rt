@@ -1,7 +1,7 @@
 // Loading a survey: document 01's order of refusals 3 to 9, and the tables that every call on a survey goes on with.
 #![tactic(auto)]
 
-ghost use Rattle.std.specs.Prelude.{ℕ, ◌+◌, ◌*◌, ◌≤◌, ◌<◌, ◌≡◌, eqb, List, [], ◌∷◌, map, ◌++◌, length, take, IfOk};
+ghost use Rattle.std.specs.Prelude.{ℕ, ◌+◌, ◌*◌, ◌≤◌, ◌<◌, ◌≡◌, List, [], ◌∷◌, length, IfOk};
 ghost use Rattle.refusal.specs.Outcome.{value, bind};
 ghost use Rattle.refusal.specs.declared.Site.{Site};
 ghost use Rattle.layout.specs.Description.{Description, descriptions_of};
@@ -11,23 +11,24 @@ ghost use Rattle.survey.specs.Devices.{devices_of};
 ghost use Rattle.listing.specs.After.{after, adapter_at, device_at, register_at};
 ghost use Rattle.adapter.specs.Adapter.{adapter_site, facts_row, min_hop};
 ghost use Rattle.adapter.specs.Paths.{entries_from, entries_by};
-ghost use Rattle.tables.specs.Packed.{speed_by, number_by, upstream_by, entry_word, adapter_word, device_word, entries_in};
-ghost use Rattle.tables.specs.Tables.{Fits, Tabled};
-ghost use Rattle.load.specs.Loading.{and_then, owned, load_adapter, load_adapters, router_cs1, upstream_in, fitting, load_device, load_from, loaded};
-ghost use Rattle.load.specs.Answers.{rows_by, tables_rows, counts_of};
-ghost use Rattle.load.specs.Work.{HopFits, rows_so_far, pushed_rows, FieldsAt, KeptFor, OneMore, PushedWithin, adapter_rows, AdapterWithin, adapters_rows, AdaptersWithin, fits_by, device_load_rows, DeviceWithin, filled_rows, FilledWithin, IntoWithin};
+ghost use Rattle.tables.specs.Rows.{no_rows, joined};
+ghost use Rattle.tables.specs.Packed.{speed_by, number_by, entry_word, adapter_word, device_row};
+ghost use Rattle.tables.specs.Tables.{rows_of, Fits, Tabled};
+ghost use Rattle.load.specs.Loading.{and_then, load_adapter, load_adapters, router_cs1, upstream_in, fitting, load_device, load_from, loaded};
+ghost use Rattle.load.specs.Answers.{answered, tables_rows, counts_of};
+ghost use Rattle.load.specs.Work.{HopFits, one_entry, one_adapter, one_device, entry_rows, Room, FieldsAt, KeptFor, Passed, ToDevice, fits_by};
 ghost use Rattle.refusal.specs.Refusal.{fault_outcome, outcome, field_at};
 
-use adapter::Facts;
+use adapter::{EntryOut, Facts};
 use named::NamedAt;
 use naming::Space;
 use paths::EntryFields;
 use refusal::{Fault, FieldError, Refusal, Site};
 use std::marker::Model;
-use tables::Tables;
+use tables::{DeviceFacts, Tables};
 use usb4::{AdapterType, Kind, Speed};
 
-// How many words of each table are used: how many rows of each kind there are.
+// How many rows of each kind there are.
 #[derive(Clone, Copy)]
 pub struct Counts {
     pub entries: usize,
@@ -35,14 +36,88 @@ pub struct Counts {
     pub devices: usize,
 }
 
-// A loaded survey: entries and adapters a word each, in the survey's order, and devices a word in each of two tables. tables/specs/Packed.antt says what a word holds.
+// A survey's rows as far as they are loaded, in its order, with room for those of any survey. tables/specs/Packed.antt says what a word holds.
 #[derive(Drop)]
-pub struct Loaded {
-    answer: Result<Counts, Refusal>,
+struct LoadedRows {
+    counts: Counts,
     entries: [u64; 4096],
     adapters: [u64; 16384],
-    routes: [u64; 4096],
-    marks: [u64; 4096],
+    devices: [DeviceFacts; 4096],
+}
+
+impl Model for LoadedRows {
+    ghost use Rattle.tables.specs.Rows.{Rows};
+
+    ghost Value = { Rows };
+
+    ghost use Rattle.load.specs.Answers.{held, Counted};
+
+    ghost view = { λ r. held r.entries r.adapters r.devices r.counts };
+
+    ghost invariant = { λ r. Counted r.devices r.counts };
+}
+
+impl LoadedRows {
+    // How many rows there are.
+    fn counts(&self) -> Counts
+        ensures { result ≡ counts_of self.now }
+    {
+        self.counts
+    }
+
+    // Each of these puts a row behind the others of its kind.
+    fn put_entry(&mut self, site: Site, in_hop: u32, out: EntryOut)
+        requires { (length self.old.entries < 4096) × (site.place < 65536) × (in_hop < 65536) }
+        ensures { self.new ≡ joined self.old (one_entry (record { device = site.place; adapter = site.adapter; in_hop = in_hop; out_adapter = out.out_adapter; out_hop = out.out_hop })) }
+    {
+        let n = self.counts.entries;
+        self.entries[n] = entry_word(
+            site.place,
+            site.adapter,
+            in_hop,
+            out.out_adapter,
+            out.out_hop,
+        );
+        self.counts.entries = n + 1;
+    }
+
+    fn put_adapter(&mut self, place: usize, facts: Facts)
+        requires { (length self.old.adapters < 16384) × (place < 65536) × HopFits facts.max_hop }
+        ensures { self.new ≡ joined self.old (one_adapter (facts_row place facts)) }
+    {
+        let n = self.counts.adapters;
+        self.adapters[n] = adapter_word(place, facts);
+        self.counts.adapters = n + 1;
+    }
+
+    fn put_device(&mut self, device: DeviceFacts)
+        requires { length self.old.devices < 4096 }
+        ensures { self.new ≡ joined self.old (one_device (device_row (length self.old.devices) device)) }
+    {
+        let n = self.counts.devices;
+        self.devices[n] = device;
+        self.counts.devices = n + 1;
+    }
+
+    // The parts of the tables that are used.
+    fn tables(&self) -> Tables<'_>
+        ensures rows { rows_of result ≡ self.now }
+        ensures fits { Fits result }
+    {
+        let counts = self.counts;
+        Tables {
+            entries: &self.entries[..counts.entries],
+            adapters: &self.adapters[..counts.adapters],
+            devices: &self.devices[..counts.devices],
+        }
+    }
+}
+
+// A loaded survey.
+#[derive(Drop)]
+pub struct Loaded {
+    answer: Result<(), Refusal>,
+    rows: LoadedRows,
 }
 
 impl Model for Loaded {
@@ -51,68 +126,31 @@ impl Model for Loaded {
 
     ghost Value = { Outcome Rows };
 
-    ghost use Rattle.load.specs.Answers.{rows_by, UsedBy};
+    ghost use Rattle.refusal.specs.Refusal.{outcome};
+    ghost use Rattle.load.specs.Answers.{answered, LoadedBy};
 
-    ghost view = { λ l. rows_by l.entries l.adapters l.routes l.marks l.answer };
+    ghost view = { λ l. answered (outcome l.answer) l.rows };
 
-    ghost invariant = { λ l. UsedBy l.entries l.adapters l.answer };
+    ghost invariant = { λ l. LoadedBy l.answer l.rows };
 }
 
 impl Loaded {
-    // The parts of the tables that are used, or why the survey is refused.
+    // The tables that the survey loads to, or why it is refused.
     pub fn tables(&self) -> Result<Tables<'_>, Refusal>
         ensures rows { tables_rows result ≡ self.now }
         ensures fits { IfOk result (λ t. Fits t × Tabled t) }
-        ensures marks { IfOk result (λ t. length t.marks.now ≡ length t.routes.now) }
     {
-        let counts = self.answer?;
-        Ok(Tables {
-            entries: &self.entries[..counts.entries],
-            adapters: &self.adapters[..counts.adapters],
-            routes: &self.routes[..counts.devices],
-            marks: &self.marks[..counts.devices],
-        })
+        self.answer?;
+        Ok(self.rows.tables())
     }
-}
-
-// The entries so far, and where the next register may stand.
-#[derive(Clone, Copy)]
-pub struct Pushed {
-    pub count: usize,
-    pub next: usize,
 }
 
 // The fields of path registers with these ids.
 #[derive(Clone, Copy)]
-pub struct Kept {
-    pub ids: u32,
-    pub vs: u32,
-    pub fields: EntryFields,
-}
-
-// An adapter's word, the entries so far and where its words end.
-#[derive(Clone, Copy)]
-pub struct AdapterLoad {
-    pub word: u64,
-    pub entries: usize,
-    pub next: usize,
-}
-
-// The rows so far and where the next device stands.
-#[derive(Clone, Copy)]
-pub struct AdaptersLoad {
-    pub entries: usize,
-    pub adapters: usize,
-    pub next: usize,
-}
-
-// A device's mark, the rows so far and where the next device stands.
-#[derive(Clone, Copy)]
-pub struct DeviceLoad {
-    pub mark: u64,
-    pub entries: usize,
-    pub adapters: usize,
-    pub next: usize,
+struct Kept {
+    ids: u32,
+    vs: u32,
+    fields: EntryFields,
 }
 
 // An entry as a word.
@@ -166,27 +204,6 @@ fn adapter_word(place: usize, f: Facts) -> u64
         + u64::from(f.lane1)
 }
 
-// An upstream adapter as a code: 0 none, 1 refused, else the number and 2.
-fn upstream_code(upstream: Result<Option<u8>, FieldError>) -> u64
-    ensures { (result < 65536) × ((s : Site) → upstream_by s result ≡ field_at s upstream) }
-{
-    match upstream {
-        Ok(Some(a)) => a as u64 + 2,
-        Ok(None) => 0,
-        Err(FieldError::NoField) => 1,
-    }
-}
-
-// A device's mark: USB4, kind, upstream adapter, domain.
-fn mark_word(kind: Kind, usb4: bool, domain: u32, upstream: Result<Option<u8>, FieldError>) -> u64
-    ensures { (p route : ℕ) → device_word p route result ≡ record { kind = kind; usb4 = usb4; domain = domain; route = route; upstream = field_at (adapter_site p 0) upstream } }
-{
-    u64::from(usb4) * 4503599627370496
-        + (u32::from(kind) as u64) * 281474976710656
-        + upstream_code(upstream) * 4294967296
-        + (domain as u64)
-}
-
 // The fields for the path register at i: those that are kept, unless it is looked at and has other ids.
 fn keep(
     descriptions: &[u32],
@@ -216,48 +233,32 @@ fn keep(
     }
 }
 
-// Puts the entry of the path register at i, if it is one, at place n of the entries.
+// Puts the entry of the path register at i, if it is one.
 fn push_entry(
     survey: &[u32],
     i: usize,
     least: u32,
     fields: EntryFields,
     site: Site,
-    entries: &mut [u64],
-    n: usize,
-) -> Result<Pushed, FieldError>
-    requires { (i + 4 ≤ length survey.now) × (n < length entries.old) × (site.place < 65536) × (least < 65536) }
-    ensures rows { (ds : List Description) (k : ℕ) → FieldsAt ds k least (register_at survey.now i) fields → pushed_rows site entries.new result ≡ bind (entries_from ds site k least (register_at survey.now i ∷ [])) (λ es. value (entries_in (take n entries.old) ++ map (owned site.place site.adapter) es)) }
-    ensures one_more { OneMore n (i + 4) result }
+    rows: &mut LoadedRows,
+) -> Result<(), FieldError>
+    requires { Room survey.now i rows.old × (i + 4 ≤ length survey.now) × (site.place < 65536) }
+    ensures rows { (ds : List Description) (k : ℕ) → FieldsAt ds k least (register_at survey.now i) fields → answered (field_at site result) rows.new ≡ and_then (value rows.old) (entry_rows site (entries_from ds site k least (register_at survey.now i ∷ []))) }
+    ensures room { Room survey.now (i + 4) rows.new }
 {
     let offset = layout::word_at(survey, i) % 65536;
     if !hopids::looked_at(offset, least) {
-        return Ok(Pushed {
-            count: n,
-            next: i + 4,
-        });
+        return Ok(());
     }
     let read = paths::entry_by(fields, layout::word_at(survey, i + 3))?;
     let Some(entry) = read else {
-        return Ok(Pushed {
-            count: n,
-            next: i + 4,
-        });
+        return Ok(());
     };
-    entries[n] = entry_word(
-        site.place,
-        site.adapter,
-        offset / 2,
-        entry.out_adapter,
-        entry.out_hop,
-    );
-    Ok(Pushed {
-        count: n + 1,
-        next: i + 4,
-    })
+    rows.put_entry(site, offset / 2, entry);
+    Ok(())
 }
 
-// Puts the entries of the path registers from a place on behind the n that are there.
+// Puts the entries of the path registers from a place on, and says where they end.
 fn push_from(
     descriptions: &[u32],
     survey: &[u32],
@@ -265,18 +266,16 @@ fn push_from(
     kind: AdapterType,
     least: u32,
     site: Site,
-    entries: &mut [u64],
-    n: usize,
-) -> Result<Pushed, FieldError>
-    requires { (from ≤ length survey.now) × (4 * n ≤ from) × (length survey.now ≤ 4 * length entries.old) × (site.place < 65536) × (least < 65536) }
-    ensures rows { pushed_rows site entries.new result ≡ bind (entries_from (descriptions_of descriptions.now) site (type_number kind) least (after survey.now from).entries) (λ es. value (entries_in (take n entries.old) ++ map (owned site.place site.adapter) es)) }
-    ensures within { PushedWithin survey.now from result }
+    rows: &mut LoadedRows,
+) -> Result<usize, FieldError>
+    requires { Room survey.now from rows.old × (site.place < 65536) × (least < 65536) }
+    ensures rows { answered (field_at site result) rows.new ≡ and_then (value rows.old) (entry_rows site (entries_from (descriptions_of descriptions.now) site (type_number kind) least (after survey.now from).entries)) }
+    ensures within { IfOk result (λ next. Passed survey.now from rows.new next) }
 {
-    let mut count = n;
     let mut at = from;
     let mut i = listing::next_register(survey, from, true);
     if survey.len() <= i {
-        return Ok(Pushed { count, next: at });
+        return Ok(at);
     }
     let mut kept = Kept {
         ids: 0,
@@ -285,15 +284,11 @@ fn push_from(
     };
     while i < survey.len() {
         kept = keep(descriptions, survey, i, kind, least, kept);
-        let fields = kept.fields;
-        let Pushed { count: more, next } = push_entry(
-            survey, i, least, fields, site, entries, count,
-        )?;
-        count = more;
-        at = next;
-        i = listing::next_register(survey, next, true);
+        push_entry(survey, i, least, kept.fields, site, rows)?;
+        at = i + 4;
+        i = listing::next_register(survey, at, true);
     }
-    Ok(Pushed { count, next: at })
+    Ok(at)
 }
 
 // The entries of the adapter whose head stands at a place: none where its kind has no least HopID.
@@ -303,35 +298,30 @@ fn push_entries(
     at: usize,
     kind: AdapterType,
     site: Site,
-    entries: &mut [u64],
-    n: usize,
-) -> Result<Pushed, FieldError>
-    requires { (at < length survey.now) × (4 * n ≤ at) × (length survey.now ≤ 4 * length entries.old) × (site.place < 65536) }
-    ensures rows { pushed_rows site entries.new result ≡ bind (entries_by (descriptions_of descriptions.now) site (type_number kind) (after survey.now (at + 1)).entries (min_hop kind)) (λ es. value (entries_in (take n entries.old) ++ map (owned site.place site.adapter) es)) }
-    ensures within { PushedWithin survey.now (at + 1) result }
+    rows: &mut LoadedRows,
+) -> Result<usize, FieldError>
+    requires { Room survey.now (at + 1) rows.old × (site.place < 65536) }
+    ensures rows { answered (field_at site result) rows.new ≡ and_then (value rows.old) (entry_rows site (entries_by (descriptions_of descriptions.now) site (type_number kind) (after survey.now (at + 1)).entries (min_hop kind))) }
+    ensures within { IfOk result (λ next. Passed survey.now (at + 1) rows.new next) }
 {
     let Some(least) = hopids::min_hop(kind) else {
-        return Ok(Pushed {
-            count: n,
-            next: at + 1,
-        });
+        return Ok(at + 1);
     };
-    push_from(descriptions, survey, at + 1, kind, least, site, entries, n)
+    push_from(descriptions, survey, at + 1, kind, least, site, rows)
 }
 
-// The adapter whose head stands at a place: 5, state, 9, entries.
+// The adapter whose head stands at a place: 5, state, 9, entries. Answers where its words end.
 fn load_adapter(
     descriptions: &[u32],
     survey: &[u32],
     at: usize,
     usb4: bool,
     place: usize,
-    entries: &mut [u64],
-    n: usize,
-) -> Result<AdapterLoad, Fault>
-    requires { (at < length survey.now) × (4 * n ≤ at) × (length survey.now ≤ 4 * length entries.old) × (place < 65536) }
-    ensures rows { adapter_rows entries.new result ≡ and_then (value (rows_so_far (take n entries.old) [])) (load_adapter (descriptions_of descriptions.now) place usb4 (adapter_at survey.now at)) }
-    ensures within { AdapterWithin survey.now (at + 1) result }
+    rows: &mut LoadedRows,
+) -> Result<usize, Fault>
+    requires { Room survey.now at rows.old × (at < length survey.now) × (place < 65536) }
+    ensures rows { answered (fault_outcome result) rows.new ≡ and_then (value rows.old) (load_adapter (descriptions_of descriptions.now) place usb4 (adapter_at survey.now at)) }
+    ensures within { IfOk result (λ next. Passed survey.now (at + 1) rows.new next) }
 {
     let facts = adapter::decode(descriptions, survey, at, usb4, place)?;
     let site = Site {
@@ -345,55 +335,35 @@ fn load_adapter(
             return Err(Fault::NoPathDump(site));
         }
     }
-    let Ok(Pushed { count, next }) = push_entries(descriptions, survey, at, kind, site, entries, n)
-    else {
+    rows.put_adapter(place, facts);
+    let Ok(next) = push_entries(descriptions, survey, at, kind, site, rows) else {
         return Err(Fault::NoField(site));
     };
-    Ok(AdapterLoad {
-        word: adapter_word(place, facts),
-        entries: count,
-        next,
-    })
+    Ok(next)
 }
 
-// The adapters from a place on, up to the next device.
+// The adapters from a place on, up to the next device. Answers where that stands.
 fn load_adapters(
     descriptions: &[u32],
     survey: &[u32],
     from: usize,
     usb4: bool,
     place: usize,
-    entries: &mut [u64],
-    n: usize,
-    adapters: &mut [u64],
-    m: usize,
-) -> Result<AdaptersLoad, Fault>
-    requires { (from ≤ length survey.now) × (4 * n ≤ from) × (m ≤ from) × (length survey.now ≤ 4 * length entries.old) × (length survey.now ≤ length adapters.old) × (place < 65536) }
-    ensures rows { adapters_rows entries.new adapters.new result ≡ and_then (value (rows_so_far (take n entries.old) (take m adapters.old))) (load_adapters (descriptions_of descriptions.now) place usb4 (after survey.now from).adapters) }
-    ensures within { AdaptersWithin survey.now from result }
+    rows: &mut LoadedRows,
+) -> Result<usize, Fault>
+    requires { Room survey.now from rows.old × (place < 65536) }
+    ensures rows { answered (fault_outcome result) rows.new ≡ and_then (value rows.old) (load_adapters (descriptions_of descriptions.now) place usb4 (after survey.now from).adapters) }
+    ensures within { IfOk result (λ next. ToDevice survey.now from rows.new next) }
 {
-    let mut count = n;
-    let mut size = m;
     let mut i = listing::next_head(survey, from);
     while i < survey.len() {
         if survey[i] / 268435456 % 16 != 4 {
-            return Ok(AdaptersLoad {
-                entries: count,
-                adapters: size,
-                next: i,
-            });
+            return Ok(i);
         }
-        let loaded = load_adapter(descriptions, survey, i, usb4, place, entries, count)?;
-        adapters[size] = loaded.word;
-        size += 1;
-        count = loaded.entries;
-        i = listing::next_head(survey, loaded.next);
+        let next = load_adapter(descriptions, survey, i, usb4, place, rows)?;
+        i = listing::next_head(survey, next);
     }
-    Ok(AdaptersLoad {
-        entries: count,
-        adapters: size,
-        next: i,
-    })
+    Ok(i)
 }
 
 // ROUTER_CS_1 of the device whose head stands at a place, if it is a router whose registers were read.
@@ -487,21 +457,18 @@ fn fits_device(
     fits_router(descriptions, survey, from, place, cs1)
 }
 
-// The device whose head stands at a place: 5; whether its adapters fit; then each adapter.
+// The device whose head stands at a place: 5; whether its adapters fit; then each adapter. Answers where the next device stands.
 fn load_device(
     descriptions: &[u32],
     survey: &[u32],
     at: usize,
-    place: usize,
-    entries: &mut [u64],
-    n: usize,
-    adapters: &mut [u64],
-    m: usize,
-) -> Result<DeviceLoad, Fault>
-    requires { (at + 4 ≤ length survey.now) × (4 * n ≤ at) × (m ≤ at) × (length survey.now ≤ 4 * length entries.old) × (length survey.now ≤ length adapters.old) × (place < 65536) }
-    ensures rows { device_load_rows place (device_at survey.now at).route entries.new adapters.new result ≡ and_then (value (rows_so_far (take n entries.old) (take m adapters.old))) (load_device (descriptions_of descriptions.now) place (device_at survey.now at)) }
-    ensures within { DeviceWithin survey.now (at + 4) result }
+    rows: &mut LoadedRows,
+) -> Result<usize, Fault>
+    requires { Room survey.now at rows.old × (at + 4 ≤ length survey.now) }
+    ensures rows { answered (fault_outcome result) rows.new ≡ and_then (value rows.old) (load_device (descriptions_of descriptions.now) (length rows.old.devices) (device_at survey.now at)) }
+    ensures within { IfOk result (λ next. ToDevice survey.now (at + 4) rows.new next) }
 {
+    let place = rows.counts().devices;
     let w = layout::word_at(survey, at);
     if w / 2 % 2 == 1 {
         if survey.len() <= listing::next_register(survey, at + 4, false) {
@@ -511,110 +478,71 @@ fn load_device(
     let cs1 = router_cs_1(descriptions, survey, at);
     fits_device(descriptions, survey, at + 4, place, cs1)?;
     let usb4 = w % 2 == 1;
-    let upstream = upstream_of(descriptions, survey, cs1);
-    let mark = mark_word(
-        Kind::from(w / 16777216 % 16),
+    let low = layout::word_at(survey, at + 2) as u64;
+    let high = layout::word_at(survey, at + 3) as u64;
+    rows.put_device(DeviceFacts {
+        kind: Kind::from(w / 16777216 % 16),
         usb4,
-        layout::word_at(survey, at + 1),
-        upstream,
-    );
-    let rows = load_adapters(
-        descriptions,
-        survey,
-        at + 4,
-        usb4,
-        place,
-        entries,
-        n,
-        adapters,
-        m,
-    )?;
-    Ok(DeviceLoad {
-        mark,
-        entries: rows.entries,
-        adapters: rows.adapters,
-        next: rows.next,
-    })
+        domain: layout::word_at(survey, at + 1),
+        route: low + high * 4294967296,
+        upstream: upstream_of(descriptions, survey, cs1),
+    });
+    load_adapters(descriptions, survey, at + 4, usb4, place, rows)
 }
 
 // All devices, one after another.
-fn fill(
-    descriptions: &[u32],
-    survey: &[u32],
-    entries: &mut [u64],
-    adapters: &mut [u64],
-    routes: &mut [u64],
-    marks: &mut [u64],
-) -> Result<Counts, Fault>
-    requires { (length survey.now ≤ 4 * length entries.old) × (length survey.now ≤ length adapters.old) × (length survey.now ≤ 4 * length routes.old) × (length routes.old ≡ length marks.old) × (length survey.now ≤ 262144) }
-    ensures rows { filled_rows entries.new adapters.new routes.new marks.new result ≡ load_from (descriptions_of descriptions.now) 0 (devices_of survey.now) }
-    ensures within { FilledWithin (length entries.old) (length adapters.old) (length routes.old) result }
+fn fill(descriptions: &[u32], survey: &[u32], rows: &mut LoadedRows) -> Result<(), Fault>
+    requires { (rows.old ≡ no_rows) × (length survey.now ≤ 16384) }
+    ensures { answered (fault_outcome result) rows.new ≡ load_from (descriptions_of descriptions.now) 0 (devices_of survey.now) }
 {
-    let mut n: usize = 0;
-    let mut m: usize = 0;
-    let mut place: usize = 0;
     let mut i = listing::next_head(survey, 0);
     while i < survey.len() {
         if survey[i] / 268435456 % 16 == 4 {
             i = listing::next_head(survey, i + 1);
         } else {
-            let low = layout::word_at(survey, i + 2) as u64;
-            let high = layout::word_at(survey, i + 3) as u64;
-            let device = load_device(descriptions, survey, i, place, entries, n, adapters, m)?;
-            routes[place] = low + high * 4294967296;
-            marks[place] = device.mark;
-            place += 1;
-            n = device.entries;
-            m = device.adapters;
-            i = device.next;
+            i = load_device(descriptions, survey, i, rows)?;
         }
     }
-    Ok(Counts {
-        entries: n,
-        adapters: m,
-        devices: place,
-    })
+    Ok(())
 }
 
-// 3, then 4, then loading, into tables that have room for any survey.
+// 3, then 4, then loading.
 // It stays a call: `load` is then small enough to be taken into its callers, and hands out tables without a copy (10.7 us where it is 22, a survey of 101 words and one search).
 #[inline(never)]
-fn load_into(
-    descriptions: &[u32],
-    survey: &[u32],
-    entries: &mut [u64],
-    adapters: &mut [u64],
-    routes: &mut [u64],
-    marks: &mut [u64],
-) -> Result<Counts, Refusal>
-    requires { (length entries.old ≡ 4096) × (length adapters.old ≡ 16384) × (length routes.old ≡ 4096) × (length marks.old ≡ 4096) }
-    ensures rows { rows_by entries.new adapters.new routes.new marks.new result ≡ loaded descriptions.now survey.now }
-    ensures within { IntoWithin result }
+fn load_into(descriptions: &[u32], survey: &[u32], rows: &mut LoadedRows) -> Result<(), Refusal>
+    requires { rows.old ≡ no_rows }
+    ensures { answered (outcome result) rows.new ≡ loaded descriptions.now survey.now }
 {
     description::check(descriptions)?;
     wellformed::check(survey)?;
-    Ok(fill(descriptions, survey, entries, adapters, routes, marks)?)
+    Ok(fill(descriptions, survey, rows)?)
 }
 
 // A survey, loaded: every fault of loading is met here, in document 01's order, and nothing is looked up by name afterwards.
+// Descriptions and survey stay two parameters, here and in the calls on a survey: as one struct they would be taken apart again at nearly each call, since most of what reads them takes one of the two.
 pub fn load(descriptions: &[u32], survey: &[u32]) -> Loaded
     ensures { result ≡ loaded descriptions.now survey.now }
 {
     let mut loaded = Loaded {
         answer: Err(Refusal::Missing),
-        entries: [0; 4096],
-        adapters: [0; 16384],
-        routes: [0; 4096],
-        marks: [0; 4096],
+        rows: LoadedRows {
+            counts: Counts {
+                entries: 0,
+                adapters: 0,
+                devices: 0,
+            },
+            entries: [0; 4096],
+            adapters: [0; 16384],
+            devices: [DeviceFacts {
+                kind: Kind::Domain,
+                usb4: false,
+                domain: 0,
+                route: 0,
+                upstream: Ok(None),
+            }; 4096],
+        },
     };
-    loaded.answer = load_into(
-        descriptions,
-        survey,
-        &mut loaded.entries,
-        &mut loaded.adapters,
-        &mut loaded.routes,
-        &mut loaded.marks,
-    );
+    loaded.answer = load_into(descriptions, survey, &mut loaded.rows);
     loaded
 }
 
@@ -622,5 +550,7 @@ pub fn load(descriptions: &[u32], survey: &[u32]) -> Loaded
 pub fn accept(descriptions: &[u32], survey: &[u32]) -> Result<Counts, Refusal>
     ensures { outcome result ≡ bind (loaded descriptions.now survey.now) (λ x. value (counts_of x)) }
 {
-    load(descriptions, survey).answer
+    let loaded = load(descriptions, survey);
+    loaded.answer?;
+    Ok(loaded.rows.counts())
 }

@@ -1,54 +1,19 @@
-// What the exported calls answer, in eight words: the calls on description words, and whether survey words are well formed.
+// What the exported calls answer, in eight words: whether description or survey words are well formed, and our descriptions.
 #![tactic(auto)]
 
 ghost use Rattle.std.specs.Prelude.{◌≡◌};
-ghost use Rattle.answers.specs.Said.{said, always, perhaps, one, bare};
+ghost use Rattle.answers.specs.Said.{said, always, bare};
 ghost use Rattle.lookups.specs.Handed.{HandedOut, OursSaid};
 ghost use Rattle.refusal.specs.Refusal.{outcome};
 
 use refusal::Refusal;
 
-// Whether words are well formed.
-fn checked(answer: Result<(), Refusal>) -> [u64; 8]
+// Whether words, of descriptions or of a survey, are well formed.
+pub fn checked(answer: Result<(), Refusal>) -> [u64; 8]
     ensures { result ≡ said (always bare (outcome answer)) }
 {
     match answer {
         Ok(()) => [0, 1, 0, 0, 0, 0, 0, 0],
-        Err(refusal) => answers::refused(refusal),
-    }
-}
-
-// Whether description words are well formed.
-pub fn descriptions(descriptions: Result<(), Refusal>) -> [u64; 8]
-    ensures { result ≡ said (always bare (outcome descriptions)) }
-{
-    checked(descriptions)
-}
-
-// Whether survey words are well formed.
-pub fn survey(survey: Result<(), Refusal>) -> [u64; 8]
-    ensures { result ≡ said (always bare (outcome survey)) }
-{
-    checked(survey)
-}
-
-// The head place of the group that names a register, or none.
-pub fn described(answer: Result<Option<usize>, Refusal>) -> [u64; 8]
-    ensures { result ≡ said (perhaps one (outcome answer)) }
-{
-    match answer {
-        Ok(Some(place)) => [0, 1, place as u64, 0, 0, 0, 0, 0],
-        Ok(None) => [0; 8],
-        Err(refusal) => answers::refused(refusal),
-    }
-}
-
-// A field's value.
-pub fn field(answer: Result<u32, Refusal>) -> [u64; 8]
-    ensures { result ≡ said (always one (outcome answer)) }
-{
-    match answer {
-        Ok(value) => [0, 1, value as u64, 0, 0, 0, 0, 0],
         Err(refusal) => answers::refused(refusal),
     }
 }

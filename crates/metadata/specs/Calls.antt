@@ -1,5 +1,5 @@
 -- What the calls on a list of description words answer: 3 first, then module 4. Assumes nothing.
-use Rattle.std.specs.Prelude.{ℕ, Bool, cond, not, List, [], ◌∷◌, eqb, length, take, drop, Option, None, Some, Err, Ok, Result}
+use Rattle.std.specs.Prelude.{ℕ, Bool, cond, not, List, [], ◌∷◌, eqb, length, take, drop, Option, None, Some}
 use Rattle.refusal.specs.Outcome.{Outcome, refused, value, bind}
 use Rattle.util.specs.Bits.{bits_of}
 use Rattle.layout.specs.Layout.{name_words, name_at}

@@ -1,13 +1,14 @@
 -- Laws of named registers: what name_group answers, the turns of by_name's loop, and fields and flags as the layers above want them. Assumes nothing.
-use Prim.Native.Nat.{ℕ, ◌+◌, ◌-◌, ◌≤◌, ◌<◌}
+use Prim.Native.Nat.{ℕ, ◌+◌, ◌-◌, ◌≤◌, ◌<◌, min}
+use Rattle.std.proofs.Math.Nat.{min-eq_left, min-eq_right}
 use mathlib.Core.Path.{◌≡◌, refl, sym, ap, ◌∙◌}
 use mathlib.Core.List.{List, ◌∷◌}
 use mathlib.Core.Bool.{Bool, true, false, cond, not}
 use Rattle.std.specs.Prelude.{Option, None, Some, Err, Ok, Result}
 use native.Mathlib.Omega.{arith}
-use native.Mathlib.Decide.{dec_lt}
+use native.Mathlib.Decide.{dec_lt, dec_le}
 use lib.Dec.{eqb}
-use lib.ListN.{length}
+use lib.ListN.{length, get_or-eq_default}
 use Rattle.refusal.specs.Outcome.{value, bind}
 use Rattle.refusal.specs.declared.Site.{Site}
 use Rattle.util.specs.Bits.{bits_of}
@@ -24,7 +25,7 @@ use Rattle.register.specs.declared.Register.{Register}
 use Rattle.survey.specs.Devices.{register_in}
 use Rattle.listing.specs.After.{after, listed, register_at, NextRegister}
 use Rattle.listing.proofs.Laws.{after_end}
-use Rattle.named.specs.Named.{Named, named, or_else, having_name, with_register, by_name, sited, wanted_field, wanted_flag, named_at, named_in, Within, found_named}
+use Rattle.named.specs.Named.{Named, named, or_else, having_name, with_register, by_name, sited, wanted_field, named_at, named_in, Within, found_named}
 use Rattle.refusal.specs.Refusal.{field_read}
 use Rattle.refusal.specs.declared.FieldError.{FieldError}
 use Rattle.refusal.specs.declared.FieldError.TheVariants as field
@@ -137,7 +138,11 @@ pub wanted_field_lem : (s : Site) (t v : List ℕ) (i g : ℕ) (r : Result ℕ F
 unfolding wanted_field
 wanted_field_lem s t v i g r name e = ap (λ z. sited s z) e
 
-pub wanted_flag_lem : (s : Site) (t v : List ℕ) (i g : ℕ) (r : Result Bool FieldError) (name : List ℕ) → field_read r ≡ flag_in (register_at v i).value name (Some (described t g))
-    → sited s (field_read r) ≡ wanted_flag s (register_at v i) (Some (described t g)) name
-unfolding wanted_flag
-wanted_flag_lem s t v i g r name e = ap (λ z. sited s z) e
+-- a register's value, by a place that stops at the end of all places
+pub value_is : (t : List ℕ) (i j : ℕ) → length t ≤ 18446744073709551615 → j ≡ min (i + 3) 18446744073709551615 → (w : ℕ) → w ≡ word t j → w ≡ (register_at t i).value
+unfolding register_at register_in register_of
+value_is t i j l e w q = q ∙ go (dec_le (i + 3) 18446744073709551615)
+  where
+    go : Dec (i + 3 ≤ 18446744073709551615) → word t j ≡ word t (i + 3)
+    go (yes h) = ap (word t) (e ∙ min-eq_left h)
+    go (no h) = get_or-eq_default t 0 {n = j} (omega (arith, e ∙ min-eq_right (omega arith))) ∙ sym (get_or-eq_default t 0 {n = i + 3} (omega arith))

@@ -1,15 +1,17 @@
 -- Registers of a survey with the descriptions that name them; fields and flags that are wanted of them. Assumes nothing.
-use Rattle.std.specs.Prelude.{ℕ, ◌+◌, ◌≤◌, Bool, true, false, cond, List, [], ◌∷◌, Option, None, Some, Err, Ok, Result}
+use Rattle.std.specs.Prelude.{ℕ, ◌+◌, ◌≤◌, Bool, cond, List, [], ◌∷◌, Option, None, Some}
 use Rattle.refusal.specs.Outcome.{Outcome, refused, value}
 use Rattle.refusal.specs.Refusal.{at}
 use Rattle.refusal.specs.declared.Site.{Site}
-use Rattle.layout.specs.Description.{Description, described}
+use Rattle.usb4.specs.Numbers.{type_number}
+use Rattle.layout.specs.Description.{Description, described, descriptions_of}
 use Rattle.naming.specs.Naming.{naming}
 use Rattle.fields.specs.Names.{alike, find_field}
 use Rattle.metadata.specs.Calls.{value_in, flag_in}
 use Rattle.register.specs.declared.Register.{Register}
-use Rattle.listing.specs.After.{register_at}
+use Rattle.listing.specs.After.{after, register_at}
 use Rattle.named.specs.declared.NamedAt.{NamedAt}
+use Rattle.named.specs.declared.Registers.{Registers}
 
 -- router, adapter and path space, as description words number them
 abbrev pub router_space : ℕ
@@ -78,3 +80,22 @@ Within n None = 0 ≤ n
 unfoldable pub found_named : List ℕ → Option ℕ → Option Description
 found_named t (Some g) = Some (described t g)
 found_named t None = None
+
+-- the registers of an adapter: those from a place of the survey on, before the next head
+abbrev pub registers_in : Registers → List Register
+registers_in r = (after r.survey.now r.from).registers
+
+-- the first of them that has the name, by the adapter's kind
+abbrev pub register_named : Registers → List ℕ → Option Named
+register_named r name = by_name (descriptions_of r.descriptions.now) adapter_space (type_number r.kind) name (registers_in r)
+
+-- the register and the description at two places
+abbrev pub at_places : Registers → NamedAt → Named
+at_places r n = record { register = register_at r.survey.now n.register; description = described r.descriptions.now n.group }
+
+-- a field and a flag of a register as its description has them
+abbrev pub read_field : Named → List ℕ → Outcome ℕ
+read_field n name = value_in n.register.value (find_field name n.description.fields)
+
+abbrev pub read_flag : Named → List ℕ → Outcome Bool
+read_flag n name = flag_in n.register.value name (Some n.description)

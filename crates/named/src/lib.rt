@@ -2,14 +2,13 @@
 #![tactic(auto)]
 
 ghost use Rattle.std.specs.Prelude.{◌≡◌, length};
-ghost use Rattle.usb4.specs.Numbers.{type_number};
 ghost use Rattle.layout.specs.Layout.{bits, low};
 ghost use Rattle.layout.specs.Description.{described, descriptions_of};
 ghost use Rattle.naming.specs.Naming.{naming};
 ghost use Rattle.fields.specs.Names.{find_field};
 ghost use Rattle.metadata.specs.Calls.{value_in, flag_in};
-ghost use Rattle.listing.specs.After.{after};
-ghost use Rattle.named.specs.Named.{adapter_space, having_name, found_named, by_name, named_at, Within};
+ghost use Rattle.listing.specs.After.{after, register_at};
+ghost use Rattle.named.specs.Named.{having_name, found_named, by_name, named_at, at_places, register_named, read_field, read_flag, Within};
 ghost use Rattle.refusal.specs.Refusal.{field_read};
 ghost use Rattle.named.specs.Work.{Spans, Widened, Counted};
 
@@ -22,6 +21,15 @@ use usb4::AdapterType;
 pub struct NamedAt {
     pub register: usize,
     pub group: usize,
+}
+
+// The registers of an adapter of a kind, as they stand in survey words from a place on, with the descriptions that name them.
+#[derive(Clone, Copy)]
+pub struct Registers<'a> {
+    pub descriptions: &'a [u32],
+    pub survey: &'a [u32],
+    pub from: usize,
+    pub kind: AdapterType,
 }
 
 // The least and the largest relative offset of the groups that have a name; least above largest where none has it.
@@ -143,27 +151,6 @@ pub fn by_name(
     None
 }
 
-// The same by the descriptions of adapter space, for an adapter of a kind.
-pub fn of_adapter(
-    descriptions: &[u32],
-    survey: &[u32],
-    from: usize,
-    kind: AdapterType,
-    name: &[u8],
-) -> Option<NamedAt>
-    ensures answer { named_at descriptions.now survey.now result ≡ by_name (descriptions_of descriptions.now) adapter_space (type_number kind) name.now (after survey.now from).registers }
-    ensures within { Within (length survey.now) result }
-{
-    by_name(
-        descriptions,
-        survey,
-        from,
-        Space::Adapter as u32,
-        u32::from(kind),
-        name,
-    )
-}
-
 // A field's value, of the register group at a place of the descriptions.
 pub fn field_value(
     descriptions: &[u32],
@@ -192,4 +179,42 @@ pub fn flag_value(
         return Err(FieldError::NoField);
     };
     Ok(util::bits(value, flag.start, flag.end) != 0)
+}
+
+impl Registers<'_> {
+    // The first register that has a name.
+    pub fn named(&self, name: &[u8]) -> Option<NamedAt>
+        ensures answer { named_at self.now.descriptions.now self.now.survey.now result ≡ register_named self.now name.now }
+        ensures within { Within (length self.now.survey.now) result }
+    {
+        by_name(
+            self.descriptions,
+            self.survey,
+            self.from,
+            Space::Adapter as u32,
+            u32::from(self.kind),
+            name,
+        )
+    }
+
+    // The value of the register at a place; 0 past the end of the words.
+    fn value(&self, at: NamedAt) -> u32
+        ensures { result ≡ (register_at self.now.survey.now at.register).value }
+    {
+        layout::word_at(self.survey, at.register.saturating_add(3))
+    }
+
+    // The value of a field of a register that was found by its name.
+    pub fn field(&self, at: NamedAt, name: &[u8]) -> Result<u32, FieldError>
+        ensures { field_read result ≡ read_field (at_places self.now at) name.now }
+    {
+        field_value(self.descriptions, at.group, self.value(at), name)
+    }
+
+    // The same for a flag.
+    pub fn flag(&self, at: NamedAt, name: &[u8]) -> Result<bool, FieldError>
+        ensures { field_read result ≡ read_flag (at_places self.now at) name.now }
+    {
+        flag_value(self.descriptions, at.group, self.value(at), name)
+    }
 }

@@ -1,15 +1,14 @@
 -- Walks over a small table, as the definitions compute them.
-use Rattle.std.specs.Option.{option_to_list}
 use Prim.Native.Nat.{ℕ}
 use mathlib.Core.Path.{◌≡◌, refl, sym, ◌∙◌}
-use mathlib.Core.Bool.{Bool, true, false, cond, false≢true}
-use mathlib.Core.List.{List, [], ◌∷◌, ◌++◌}
+use mathlib.Core.Bool.{Bool, true, false, cond}
+use mathlib.Core.List.{List, [], ◌∷◌}
 use Rattle.std.specs.Prelude.{Option, None, Some}
 use native.Mathlib.Omega.{arith}
 use lib.ListN.{length}
 use lib.Dec.{eqb}
 use borrow.Author.Tests.{eqb-true}
-use Rattle.orbit.specs.Walk.{Turn, Turn.on, Turn.ends, Walk, Spot.stand, Spot.ended, Spot.stopped, going, found, arrive, turned, made, onward, walk_n, hop_at, hops_n, Never}
+use Rattle.orbit.specs.Walk.{Turn.on, Turn.ends, Walk, Spot.stand, Spot.ended, Spot.stopped, going, found, arrive, turned, made, onward, walk_n, hop_at, hops_n, Never}
 use Rattle.orbit.proofs.Orbit.{has, Ranked, table_ranked, never_at}
 
 -- an entry leads from a state to another; 9 is an end

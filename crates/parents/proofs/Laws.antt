@@ -13,8 +13,7 @@ use Rattle.usb4.specs.Numbers.{device_kind_number}
 use Rattle.route.specs.Route.{upstream_route}
 use Rattle.adapter.specs.Adapter.{AdapterRow, adapter_site}
 use Rattle.tables.specs.Rows.{Rows, DeviceRow, adapter_in, device_in, is_router}
-use Rattle.tables.specs.Found.{device_row}
-use Rattle.tables.specs.Packed.{devices_in}
+use Rattle.tables.specs.Packed.{device_row, devices_in}
 use Rattle.tables.specs.Tables.{InOrder, Tabled, rows_of}
 use Rattle.tables.specs.declared.Tables.{Tables}
 use Rattle.load.specs.Answers.{asked_device, present}
@@ -77,13 +76,13 @@ unfolding asked_device present bind
 none_by x p f e = ap (λ (o : Option DeviceRow). bind (present o) f) e
 
 module _ (t : Tables) (p : ℕ) where
-  pub none_asked : None ≡ device_in (devices_in t.routes.now t.marks.now) p → refused 14 [] ≡ bind (asked_device (rows_of t) p) (λ d. parent_of (rows_of t) p d)
+  pub none_asked : None ≡ device_in (devices_in t.devices.now) p → refused 14 [] ≡ bind (asked_device (rows_of t) p) (λ d. parent_of (rows_of t) p d)
   unfolding rows_of
   none_asked e = none_by (rows_of t) p (λ d. parent_of (rows_of t) p d) e
 
-  pub parent_asked : (d : DeviceRow) → Tabled t → Some d ≡ device_in (devices_in t.routes.now t.marks.now) p → (r : Result (Option ℕ) Fault) → ParentIs t p (λ x. parent_of x p d) r
+  pub parent_asked : (d : DeviceRow) → Tabled t → Some d ≡ device_in (devices_in t.devices.now) p → (r : Result (Option ℕ) Fault) → ParentIs t p (λ x. parent_of x p d) r
       → fault_outcome r ≡ bind (asked_device (rows_of t) p) (λ d. parent_of (rows_of t) p d)
   unfolding rows_of asked_device present bind
   parent_asked d k e r h =
-      let o : InOrder t = record { adapters = k.adapter_order; devices = k.devices } in
+      let o : InOrder t = k.others in
       h.is o (device_fits t p d o e) ∙ ap (λ (z : Option DeviceRow). bind (present z) (λ d. parent_of (rows_of t) p d)) e

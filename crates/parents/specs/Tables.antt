@@ -7,6 +7,6 @@ use Rattle.refusal.specs.declared.Fault.{Fault}
 use Rattle.tables.specs.declared.Tables.{Tables}
 use Rattle.tables.specs.Tables.{InOrder, rows_of}
 
--- In tables in order, for a place that a key has room for, it is what f says of their rows. In any others it is free, but that it is a fault.
+-- In tables in order, for a place that a key has room for, it is what f says of their rows. In any others it is free, but that it is a fault where it is refused.
 pub record ParentIs (tables : Tables) (p : ℕ) (f : Rows → Outcome (Option ℕ)) (r : Result (Option ℕ) Fault) : Type 0 where
   pub is : InOrder tables → p < 65536 → fault_outcome r ≡ f (rows_of tables)

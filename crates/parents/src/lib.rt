@@ -2,7 +2,7 @@
 #![tactic(auto)]
 
 ghost use Rattle.std.specs.Prelude.{◌≡◌};
-ghost use Rattle.tables.specs.Found.{device_row};
+ghost use Rattle.tables.specs.Packed.{device_row};
 ghost use Rattle.parents.specs.Parents.{router_parent, xdomain_parent, parent_of, parent_answer};
 ghost use Rattle.parents.specs.Tables.{ParentIs};
 ghost use Rattle.refusal.specs.Refusal.{fault_outcome, outcome};

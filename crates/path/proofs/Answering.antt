@@ -12,8 +12,8 @@ use lib.Seq.{length-take-le, length_front, drop_at, drop-set-lt}
 use borrow.Author.Tests.{lt-ltb, le-ltb, ltb-true}
 use Rattle.refusal.specs.Outcome.{Outcome, refused, value, bind}
 use Rattle.tables.specs.Rows.{EntryRow}
-use Rattle.tables.specs.Packed.{entry_word, entries_in}
-use Rattle.tables.proofs.Laws.{device_past_routes}
+use Rattle.tables.specs.Packed.{entry_word}
+use Rattle.tables.proofs.Laws.{device_past}
 use Rattle.refusal.specs.Refusal.{refused_by, is_given, IsMet, of_walk, outcome}
 use Rattle.load.specs.Loading.{valid_entries}
 use Rattle.refusal.specs.declared.Refusal.{Refusal}
@@ -44,16 +44,16 @@ use mathlib.Core.Logic.{inl, inr}
 -- ---- the start of a path
 
 -- no hop leads anywhere from a device that isn't there
-leads_far : (tables : Tables) (p o : ℕ) → length tables.routes.now ≤ p → leads (rows_of tables) p o ≡ refused 14 []
+leads_far : (tables : Tables) (p o : ℕ) → length tables.devices.now ≤ p → leads (rows_of tables) p o ≡ refused 14 []
 unfolding rows_of
-leads_far tables p o l = sym (leads_missing (rows_of tables) p o (device_past_routes 0 tables.routes.now tables.marks.now p l))
+leads_far tables p o l = sym (leads_missing (rows_of tables) p o (device_past 0 tables.devices.now p l))
 
 module _ (tables : Tables) (s : Stand) (hs : List EntryRow) (e : walk_from (rows_of tables) s ≡ value (Some hs)) where
-  pub start_there : s.place < length tables.routes.now
+  pub start_there : s.place < length tables.devices.now
   unfolding settled path_of hops_n walk_on turn_by
-  start_there = go (dec_lt s.place (length tables.routes.now)) ((walk_on (rows_of tables)).hop s) refl
+  start_there = go (dec_lt s.place (length tables.devices.now)) ((walk_on (rows_of tables)).hop s) refl
     where
-      go : Dec (s.place < length tables.routes.now) → (o : Option EntryRow) → (walk_on (rows_of tables)).hop s ≡ o → s.place < length tables.routes.now
+      go : Dec (s.place < length tables.devices.now) → (o : Option EntryRow) → (walk_on (rows_of tables)).hop s ≡ o → s.place < length tables.devices.now
       go (yes l) o f = l
       go (no l) None f = absurd (
           let w = reach_stops (walk_on (rows_of tables)) s (reach_start (walk_on (rows_of tables)) s) f in
@@ -168,7 +168,7 @@ module _ (tables : Tables) (s : Stand) (name : ℕ) (out : List ℕ) where
     long = long;
     walks = λ z t d q.
         let g = sound tables s d q in
-        let w = follows z t (omega (arith, t.devices, there_below tables s.place g.start)) in
+        let w = follows z t (omega (arith, t.others.devices, there_below tables s.place g.start)) in
         rule (rows_of tables) s (words_needed name) (length out) (λ hs. out' ≡ with_path name hs out) (outcome a) g w.0
         (λ hs n e v. wrote_path name n hs out out' (sym v ∙ w.0 ∙ ap (λ y. bind y (in_room (words_needed name) (length out))) e) (w.1 ∙ ap (λ y. output_by name y out) e));
   }

@@ -10,7 +10,6 @@ use lib.ListN.{length, get_or, take, drop, set, length-append, length-drop, leng
 use lib.Seq.{take_at, drop_at, sets-eq, drop-drop, drop-cons, drop-set-lt}
 use Rattle.refusal.specs.Outcome.{Outcome, refused, value, bind}
 use Rattle.tables.specs.Rows.{EntryRow}
-use Rattle.tables.specs.Packed.{entries_in}
 use Rattle.tables.specs.Found.{EntrySought, entry_found}
 use Rattle.refusal.specs.Refusal.{refused_by, of_walk}
 use Rattle.refusal.specs.declared.Refusal.{Refusal}
@@ -95,14 +94,14 @@ row p a h o g = record { device = p; adapter = a; in_hop = h; out_adapter = o; o
 pub record Makes (tables : Tables) (s : Stand) (old : List ℕ) (m : ℕ) : Type 0 where
   pub sized : Sized tables
   pub tabled : Tabled tables
-  pub there : s.place < length tables.routes.now
+  pub there : s.place < length tables.devices.now
   pub ends : EndsAfter (walk_in tables) s m
   pub room : 1 + 2 * m ≤ length old
 
 -- i hops are written, and the walk has come to y
 pub record Wrote (tables : Tables) (s : Stand) (old : List ℕ) (i : ℕ) (y : Stand) (out : List ℕ) : Type 0 where
   pub reached : Reached (walk_in tables) s i y
-  pub there : y.place < length tables.routes.now
+  pub there : y.place < length tables.devices.now
   pub words : out ≡ so_far (get_or old 0 0) (hops_n (walk_in tables) s i) old
 
 -- what the loop keeps: no word past the hops so far is changed, whatever the tables
@@ -124,7 +123,7 @@ kept_start tables s old l room = record {
 }
 
 in_order : {tables : Tables} → Tabled tables → InOrder tables
-in_order t = record { adapters = t.adapter_order; devices = t.devices }
+in_order t = t.others
 
 -- two words after the hops so far
 two_long : (out : List ℕ) (i u v : ℕ) → length (set (set out (1 + 2 * i) u) (2 + 2 * i) v) ≡ length out
@@ -155,7 +154,7 @@ module _ (tables : Tables) (s : Stand) (old : List ℕ) where
     module _ (more : i < (length old - 1) / 2) (r : Option EntryOut) (f : EntrySought tables.entries.now p a h r) where
       found_hop : (m : ℕ) → Makes tables s old m → (walk_in tables).hop (stood p a h) ≡ entry_found p a h r
       unfolding walk_in walk_on rows_of
-      found_hop m y = sym (f.first (omega (arith, (k.wrote m y).there, y.tabled.devices)) y.tabled.entry_order)
+      found_hop m y = sym (f.first (omega (arith, (k.wrote m y).there, y.tabled.others.devices)) y.tabled.entries)
 
       pub kept_missing : r ≡ None → HopsPut tables s old i out
       unfolding entry_found

@@ -1,6 +1,6 @@
 -- A path written from tables. Assumes nothing.
-use Rattle.std.specs.Prelude.{ℕ, ◌+◌, ◌*◌, ◌≤◌, ◌<◌, ◌≡◌, Bool, true, false, List, [], ◌∷◌, length, drop, Option, None, Some, Err, Ok, Result}
-use Rattle.refusal.specs.Outcome.{Outcome, refused, value, bind}
+use Rattle.std.specs.Prelude.{ℕ, ◌+◌, ◌*◌, ◌≤◌, ◌<◌, ◌≡◌, false, List, length, drop, Option, None, Some, Err, Ok, Result}
+use Rattle.refusal.specs.Outcome.{value, bind}
 use Rattle.tables.specs.Rows.{EntryRow, DeviceRow}
 use Rattle.load.specs.Answers.{asked_device}
 use Rattle.walk.specs.Rule.{walk_from, in_room, WalkRule}
@@ -16,9 +16,9 @@ pub record Put (tables : Tables) (s : Stand) (name : ℕ) (output : List ℕ) (r
   pub answers : Sized tables → Tabled tables → s.place < 65536 → outcome r ≡ bind (walk_from (rows_of tables) s) (in_room (words_needed name) (length output))
   pub writes : Sized tables → Tabled tables → s.place < 65536 → output' ≡ output_by name (walk_from (rows_of tables) s) output
   pub past : 65535 < s.place → r ≡ (Ok None)
-  -- larger tables have no path
+  -- larger tables are not walked: no path
   pub larger : (Sized tables → ⊥) → r ≡ (Ok None)
-  -- on any tables, it is refused as a walk is, or for want of room
+  -- on any tables, it is refused by a fault, 14 or 2
   pub met : (m : Refusal) → r ≡ Err m → IsMet m
   pub kept : is_given r ≡ false → output' ≡ output
   pub fits : (n : ℕ) → r ≡ Ok (Some n) → (0 < n) × (1 + 2 * n ≤ length output)

@@ -20,4 +20,4 @@ pub record HopsPut (tables : Tables) (s : Stand) (old : List ℕ) (n : ℕ) (new
   pub fits : 1 + 2 * n ≤ length old
   pub long : length new ≡ length old
   pub tail : drop (1 + 2 * n) new ≡ drop (1 + 2 * n) old
-  pub words : Sized tables → Tabled tables → s.place < length tables.routes.now → (m : ℕ) → EndsAfter (walk_in tables) s m → 1 + 2 * m ≤ length old → (n ≡ m) × (new ≡ so_far (get_or old 0 0) (hops_n (walk_in tables) s n) old)
+  pub words : Sized tables → Tabled tables → s.place < length tables.devices.now → (m : ℕ) → EndsAfter (walk_in tables) s m → 1 + 2 * m ≤ length old → (n ≡ m) × (new ≡ so_far (get_or old 0 0) (hops_n (walk_in tables) s n) old)

@@ -80,7 +80,7 @@ pub fn put_path(
     if MOST_ENTRIES < tables.entries.len() {
         return Ok(None);
     }
-    if MOST_DEVICES < tables.routes.len() {
+    if MOST_DEVICES < tables.devices.len() {
         return Ok(None);
     }
     let walked = walk::tally(tables, stand)?;

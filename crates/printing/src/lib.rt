@@ -18,64 +18,44 @@ fn word_after(words: &[u32], i: usize, k: usize) -> u32
     words[i + k]
 }
 
-// Puts the name of a tunnel type.
-fn put_type(out: &mut [u8], at: usize, n: u32) -> usize
-    ensures { Puts out.old at (type_name n) result out.new }
+// The name of the tunnel type of a number. The number is four bits of a word that may be any: where it is no type's, the name is empty.
+#[tactic(auto, unfolding(util::specs::Text::bytes_of, crate::specs::Lines::type_name))]
+fn type_name(n: u32) -> &'static [u8]
+    ensures { result.now ≡ type_name n }
 {
-    if n == 0 {
-        return print::put_text(out, at, b"USB 3");
+    match n {
+        0 => b"USB 3",
+        1 => b"DisplayPort",
+        2 => b"PCIe",
+        3 => b"DMA",
+        _ => b"",
     }
-    if n == 1 {
-        return print::put_text(out, at, b"DisplayPort");
-    }
-    if n == 2 {
-        return print::put_text(out, at, b"PCIe");
-    }
-    if n == 3 {
-        return print::put_text(out, at, b"DMA");
-    }
-    print::put_text(out, at, b"")
 }
 
-// Puts the name of a path.
-fn put_name(out: &mut [u8], at: usize, n: u32) -> usize
-    ensures { Puts out.old at (path_name n) result out.new }
+// The name of the path of a number, which may be any too.
+#[tactic(auto, unfolding(util::specs::Text::bytes_of, crate::specs::Lines::path_name))]
+fn path_name(n: u32) -> &'static [u8]
+    ensures { result.now ≡ path_name n }
 {
-    if n == 0 {
-        return print::put_text(out, at, b"USB 3 Down");
+    match n {
+        0 => b"USB 3 Down",
+        1 => b"USB 3 Up",
+        2 => b"Video",
+        3 => b"AUX TX",
+        4 => b"AUX RX",
+        5 => b"PCIe Down",
+        6 => b"PCIe Up",
+        7 => b"DMA TX",
+        8 => b"DMA RX",
+        _ => b"",
     }
-    if n == 1 {
-        return print::put_text(out, at, b"USB 3 Up");
-    }
-    if n == 2 {
-        return print::put_text(out, at, b"Video");
-    }
-    if n == 3 {
-        return print::put_text(out, at, b"AUX TX");
-    }
-    if n == 4 {
-        return print::put_text(out, at, b"AUX RX");
-    }
-    if n == 5 {
-        return print::put_text(out, at, b"PCIe Down");
-    }
-    if n == 6 {
-        return print::put_text(out, at, b"PCIe Up");
-    }
-    if n == 7 {
-        return print::put_text(out, at, b"DMA TX");
-    }
-    if n == 8 {
-        return print::put_text(out, at, b"DMA RX");
-    }
-    print::put_text(out, at, b"")
 }
 
 // Puts a tunnel's line; `hop` is the head word of the first hop of its first path.
 fn put_tunnel(out: &mut [u8], at: usize, w: u32, hop: u32) -> usize
     ensures { Puts out.old at (tunnel_line w hop) result out.new }
 {
-    let a = put_type(out, at, w % 16);
+    let a = print::put_text(out, at, type_name(w % 16));
     let b = print::put_text(out, a, b" from ");
     let c = print::put_number(out, b, (hop / 65536 % 4096) as u64);
     let d = print::put_text(out, c, b":");
@@ -92,7 +72,7 @@ fn put_tunnel(out: &mut [u8], at: usize, w: u32, hop: u32) -> usize
 fn put_path(out: &mut [u8], at: usize, w: u32) -> usize
     ensures { Puts out.old at (path_line w) result out.new }
 {
-    let a = put_name(out, at, w / 65536 % 16);
+    let a = print::put_text(out, at, path_name(w / 65536 % 16));
     let b = print::put_text(out, a, b" hops ");
     let c = print::put_number(out, b, (w % 65536) as u64);
     print::put_text(out, c, b"\n")

@@ -12,7 +12,7 @@ use Rattle.usb4.specs.declared.Kind.{Kind}
 use Rattle.usb4.specs.declared.Kind.TheVariants as kind
 use Rattle.route.specs.Route.{downstream_adapter}
 use Rattle.adapter.specs.Adapter.{AdapterRow, min_hop}
-use Rattle.tables.specs.Rows.{EntryRow, DeviceRow, Rows, adapter_in, device_in}
+use Rattle.tables.specs.Rows.{DeviceRow, Rows, adapter_in, device_in}
 use Rattle.refusal.specs.Refusal.{fault_outcome, refusal_of}
 use Rattle.refusal.proofs.Laws.{fault_bind}
 use Rattle.fabric.proofs.Laws.{device_fits}

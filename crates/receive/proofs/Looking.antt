@@ -2,7 +2,6 @@
 use Prim.Native.Nat.{ℕ, ◌+◌, ◌≤◌, ◌<◌}
 use mathlib.Core.Path.{◌≡◌, refl, sym, ap, ◌∙◌}
 use mathlib.Core.Bool.{Bool, true, false, cond, true≢false}
-use mathlib.Core.List.{List}
 use Rattle.std.specs.Prelude.{Option, None, Some, Ok, Err, Result}
 use lib.Dec.{eqb}
 use borrow.Author.Tests.{eqb-true, eq-eqb}
@@ -43,14 +42,14 @@ module _ (tables : Tables) (ring q n h hi : ℕ) where
 
   module _ {u : Option HopEntry} (ahead : HopAhead tables.entries.now q n h u) where
     pub looked_over : u ≡ None → Looked tables ring q n h hi (Ok step.Over)
-    looked_over e = looked_none (λ t l i a b. ahead.over l t.entry_order e i a)
+    looked_over e = looked_none (λ t l i a b. ahead.over l t.entries e i a)
 
     module _ {y : HopEntry} (e : u ≡ Some y) where
       abbrev k : ℕ
       k = y.hop
 
       pub looked_past : hi < k → Looked tables ring q n h hi (Ok step.Over)
-      looked_past m = looked_none (λ t l i a b. ahead.first l t.entry_order y e i a (omega arith))
+      looked_past m = looked_none (λ t l i a b. ahead.first l t.entries y e i a (omega arith))
 
       -- a HopID has 16 bits
       narrow : k < 65536
@@ -64,7 +63,7 @@ module _ (tables : Tables) (ring q n h hi : ℕ) where
 
         there : Tabled tables → q < 65536 → (v : ℕ) → up_to (rows_of tables) v q n h hi ≡ bind (walk_from (rows_of tables) (at q n k)) (or_rest v (up_to (rows_of tables) v q n (k + 1) hi))
         unfolding rows_of
-        there t l v = leap (rows_of tables) v q n h k hi (ahead.from y e) (omega arith) (ahead.first l t.entry_order y e) ∙ first_walk (rows_of tables) v q n k hi below
+        there t l v = leap (rows_of tables) v q n h k hi (ahead.from y e) (omega arith) (ahead.first l t.entries y e) ∙ first_walk (rows_of tables) v q n k hi below
 
         come : (o : Result (Option Walked) WalkError) → w ≡ o → Tabled tables → q < 65536 → tally_outcome o ≡ bind (walk_from (rows_of tables) (at q n k)) (λ o. value (leaves o))
         unfolding at

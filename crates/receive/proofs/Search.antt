@@ -14,8 +14,7 @@ use lib.Seq.{drop-nil, drop-drop, take-suc-set}
 use borrow.Author.Tests.{ne_eqb}
 use Rattle.refusal.specs.Outcome.{Outcome, value, bind}
 use Rattle.tables.specs.Rows.{DeviceRow, Rows, device_in}
-use Rattle.tables.specs.Packed.{entries_in}
-use Rattle.tables.proofs.Laws.{device_past_routes}
+use Rattle.tables.proofs.Laws.{device_past}
 use Rattle.refusal.proofs.Laws.{walk_bind}
 use Rattle.receive.specs.Receive.{at, Lane, lane_of, Receive, Receive.nothing, among_hops, at_lane, or_next, among_devices, receive}
 use Rattle.receive.specs.Tables.{Said, said_of, received_outcome, hops_by, note_stand, note_ring, walk_said, by_notes, is_path, Searches}
@@ -81,7 +80,7 @@ module _ (x : Rows) (ring i : ℕ) where
       go (Some d) e = step_some d e
 
 in_order : {tables : Tables} → Tabled tables → InOrder tables
-in_order t = record { adapters = t.adapter_order; devices = t.devices }
+in_order t = t.others
 
 -- ---- notes
 
@@ -175,10 +174,10 @@ module _ (tables : Tables) (ring : ℕ) where
   seek_start notes = record { ws = []; written = record { others = omega arith; kept = λ l. refl; within = omega arith }; whole = λ t v. refl }
 
   module _ {i : ℕ} {noted : ℕ} {notes : List ℕ} (s : Seeking tables ring i noted notes) where
-    pub seek_end : length tables.routes.now ≤ i → Searches (length notes) tables ring (Ok answer.Nothing) noted notes
+    pub seek_end : length tables.devices.now ≤ i → Searches (length notes) tables ring (Ok answer.Nothing) noted notes
     unfolding received_outcome hops_by bind said_of rows_of
     seek_end l = ends (Ok answer.Nothing) s.ws noted notes s.written (omega arith) (λ t v.
-        s.whole t v ∙ ap (λ (o : Outcome Receive). by_notes (rows_of tables) v s.ws (said o)) (left_past (rows_of tables) v i (device_past_routes 0 tables.routes.now tables.marks.now i l)))
+        s.whole t v ∙ ap (λ (o : Outcome Receive). by_notes (rows_of tables) v s.ws (said o)) (left_past (rows_of tables) v i (device_past 0 tables.devices.now i l)))
 
     -- by the lane of the device at place i
     module _ {u : Result LaneFound WalkError} (is : LaneIs tables (λ x. lane_at x i) u) where

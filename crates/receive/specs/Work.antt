@@ -1,7 +1,7 @@
 -- For the contracts of private functions only. No promise to a caller rests on these. Assumes nothing.
 use Rattle.std.specs.Prelude.{ℕ, ◌+◌, ◌-◌, ◌≤◌, ◌<◌, ◌≡◌, cond, List, eqb, length, set, Option, None as absent, Some, Result, Ok, Err}
 use Rattle.refusal.specs.Outcome.{Outcome, value, bind}
-use Rattle.tables.specs.Rows.{EntryRow, DeviceRow, Rows, device_in}
+use Rattle.tables.specs.Rows.{DeviceRow, Rows, device_in}
 use Rattle.refusal.specs.Refusal.{refused_by, of_walk}
 use Rattle.receive.specs.Receive.{at, Lane, Lane.lane, Lane.passed, Lane.dropped, lane_of, Receive, Receive.nothing, among_hops, or_next}
 use Rattle.receive.specs.Tables.{Said, said_of, received_outcome, walk_said}

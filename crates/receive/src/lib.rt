@@ -4,7 +4,7 @@
 ghost use Rattle.std.specs.Prelude.{ℕ, ◌+◌, ◌*◌, ◌<◌, ◌≡◌, length};
 ghost use Rattle.adapter.specs.Adapter.{facts_row};
 ghost use Rattle.tables.specs.Rows.{device_in};
-ghost use Rattle.tables.specs.Found.{device_row};
+ghost use Rattle.tables.specs.Packed.{device_row};
 ghost use Rattle.receive.specs.Receive.{hops_of, under_router, taken};
 ghost use Rattle.receive.specs.Tables.{note_ring, Searches};
 ghost use Rattle.receive.specs.Work.{lane_outcome, LaneIs, lane_at, Looked, PutNote};
@@ -209,7 +209,8 @@ fn seek_path(tables: &Tables, ring: u16, notes: &mut [u64]) -> Sought
     ensures { Searches (length notes.new) tables.now ring result.found result.noted notes.new }
 {
     let mut noted: usize = 0;
-    for i in 0..tables.routes.len() {
+    let mut found = Ok(Received::Nothing);
+    'rx_path: for i in 0..tables.devices.len() {
         match lane_of(tables, i) {
             Err(error) => {
                 let found = Err(error);
@@ -243,15 +244,14 @@ fn seek_path(tables: &Tables, ring: u16, notes: &mut [u64]) -> Sought
                             return Sought { found, noted };
                         }
                         Ok(Step::Fits(path)) => {
-                            let found = Ok(Received::Path(path));
-                            return Sought { found, noted };
+                            found = Ok(Received::Path(path));
+                            break 'rx_path;
                         }
                     }
                 }
             }
         }
     }
-    let found = Ok(Received::Nothing);
     Sought { found, noted }
 }
 

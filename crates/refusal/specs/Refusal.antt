@@ -56,7 +56,7 @@ walk_outcome = outcome_by (λ e. refused_by (of_walk e))
 abbrev pub fault_outcome : {A : Type 0} → Result A Fault → Outcome A
 fault_outcome = outcome_by refusal_of
 
--- a field or a flag that is wanted of a named register: 6 alone where it is missing
+-- a field or a flag that is wanted of a register: 6 alone where the register has no name, the field is missing or the flag isn't one bit
 abbrev pub field_read : {A : Type 0} → Result A FieldError → Outcome A
 field_read = outcome_by (λ e. refused 6 [])
 

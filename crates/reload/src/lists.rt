@@ -1,17 +1,17 @@
 // Whether a discovery answers what the words of a case say, and leaves its output as it should. oracle/make-discoveries says what questions and answers are.
+use crate::loads::Survey;
 use crate::words::{after_written, kept, mark, refuses, value};
+use refusal::Site;
 
 // A discovery into an output whose words are marked first.
 fn after_list<'a>(
     rest: &'a [u32],
-    d: &[u32],
-    survey: &[u32],
-    place: usize,
-    n: u8,
+    of: Survey<'_>,
+    site: Site,
     output: &mut [u32],
 ) -> Option<&'a [u32]> {
     mark(output);
-    let answer = discoveries::discover(d, survey, place, n, output);
+    let answer = discoveries::discover(of.descriptions, of.words, site, output);
     let written = match answer {
         Ok(Some(words)) => words,
         _ => 0,
@@ -21,22 +21,16 @@ fn after_list<'a>(
 }
 
 // The room stands first, and then the answer.
-pub fn after_discovery<'a>(
-    rest: &'a [u32],
-    d: &[u32],
-    survey: &[u32],
-    place: usize,
-    n: u8,
-) -> Option<&'a [u32]> {
+pub fn after_discovery<'a>(rest: &'a [u32], of: Survey<'_>, site: Site) -> Option<&'a [u32]> {
     let mut output = [0u32; 16400];
     let (room, rest) = rest.split_first()?;
-    after_list(rest, d, survey, place, n, output.get_mut(..*room as usize)?)
+    after_list(rest, of, site, output.get_mut(..*room as usize)?)
 }
 
 // Whether a discovery is refused with that word.
-pub fn discovery_refuses(d: &[u32], survey: &[u32], place: usize, n: u8, word: u32) -> bool {
+pub fn discovery_refuses(of: Survey<'_>, site: Site, word: u32) -> bool {
     let mut output = [0u32; 4];
     mark(&mut output);
-    let answer = discoveries::discover(d, survey, place, n, &mut output);
+    let answer = discoveries::discover(of.descriptions, of.words, site, &mut output);
     refuses(answer, word) && kept(&output, 0)
 }

@@ -6,7 +6,15 @@ use acceptance::Acceptance;
 use adapter::{EntryOut, Part};
 use adapters::AdapterInfo;
 use devices::DeviceInfo;
+use refusal::Site;
 use tables::Stand;
+
+// A survey, and the descriptions that it goes by.
+#[derive(Clone, Copy)]
+pub struct Survey<'a> {
+    pub descriptions: &'a [u32],
+    pub words: &'a [u32],
+}
 
 // Two numbers as one value; more than any value where the second has no room.
 fn pair(first: usize, second: usize, unit: usize) -> [u32; 1] {
@@ -64,110 +72,99 @@ fn adapter_words(a: AdapterInfo) -> [u32; 2] {
     [value(codes + flags), least]
 }
 
-fn after_accepted<'a>(rest: &'a [u32], d: &[u32], survey: &[u32]) -> Option<&'a [u32]> {
+fn after_accepted<'a>(rest: &'a [u32], of: Survey<'_>) -> Option<&'a [u32]> {
     after(
         rest,
-        acceptance::accepted(d, survey).map(|a| Some(accepted_words(a))),
+        acceptance::accepted(of.descriptions, of.words).map(|a| Some(accepted_words(a))),
     )
 }
 
-fn after_device<'a>(rest: &'a [u32], d: &[u32], survey: &[u32], place: usize) -> Option<&'a [u32]> {
-    let device = devices::device(d, survey, place);
-    let upstream = devices::upstream_adapter(d, survey, place);
-    let parent = parents::parent_from(d, survey, place);
+fn after_device<'a>(rest: &'a [u32], of: Survey<'_>, place: usize) -> Option<&'a [u32]> {
+    let device = devices::device(of.descriptions, of.words, place);
+    let upstream = devices::upstream_adapter(of.descriptions, of.words, place);
+    let parent = parents::parent_from(of.descriptions, of.words, place);
     let rest = after(rest, device.map(|i| Some(device_words(i))))?;
     let rest = after(rest, upstream.map(|n| n.map(|n| [value(n as u64)])))?;
     after(rest, parent.map(|p| p.map(|p| [value(p as u64)])))
 }
 
-fn after_cap<'a>(
-    rest: &'a [u32],
-    d: &[u32],
-    survey: &[u32],
-    place: usize,
-    n: u8,
-    cap: u32,
-) -> Option<&'a [u32]> {
-    let found = capabilities::capability(d, survey, place, n, cap);
+fn after_cap<'a>(rest: &'a [u32], of: Survey<'_>, site: Site, cap: u32) -> Option<&'a [u32]> {
+    let found = capabilities::capability(of.descriptions, of.words, site, cap);
     after(rest, found.map(|part| part.map(part_words)))
 }
 
-fn after_adapter<'a>(
-    rest: &'a [u32],
-    d: &[u32],
-    survey: &[u32],
-    place: usize,
-    n: u8,
-) -> Option<&'a [u32]> {
-    let adapter = adapters::adapter(d, survey, place, n);
-    let speed = adapters::link_speed(d, survey, place, n);
-    let most = adapters::max_hop(d, survey, place, n);
-    let up = routing::upstream_route(d, survey, place, n);
-    let down = routing::downstream_route(d, survey, place, n);
+fn after_adapter<'a>(rest: &'a [u32], of: Survey<'_>, site: Site) -> Option<&'a [u32]> {
+    let adapter = adapters::adapter(of.descriptions, of.words, site);
+    let speed = adapters::link_speed(of.descriptions, of.words, site);
+    let most = adapters::max_hop(of.descriptions, of.words, site);
+    let up = routing::upstream_route(of.descriptions, of.words, site);
+    let down = routing::downstream_route(of.descriptions, of.words, site);
     let rest = after(rest, adapter.map(|a| Some(adapter_words(a))))?;
     let rest = after(rest, speed.map(|s| Some([value(u32::from(s) as u64)])))?;
     let rest = after(rest, most.map(|h| h.map(|h| [value(h as u64)])))?;
-    let rest = after_cap(rest, d, survey, place, n, 1)?;
-    let rest = after_cap(rest, d, survey, place, n, 4)?;
-    let rest = after_cap(rest, d, survey, place, n, 6)?;
+    let rest = after_cap(rest, of, site, 1)?;
+    let rest = after_cap(rest, of, site, 4)?;
+    let rest = after_cap(rest, of, site, 6)?;
     let rest = after(rest, up.map(|r| r.map(route_words)))?;
     after(rest, down.map(|r| r.map(route_words)))
 }
 
-fn after_entry<'a>(
-    rest: &'a [u32],
-    d: &[u32],
-    survey: &[u32],
-    place: usize,
-    n: u8,
-    hop: u16,
-) -> Option<&'a [u32]> {
+fn after_entry<'a>(rest: &'a [u32], of: Survey<'_>, site: Site, hop: u16) -> Option<&'a [u32]> {
     let stand = Stand {
-        place,
-        adapter: n,
+        place: site.place,
+        adapter: site.adapter,
         hop_id: hop,
     };
-    let found = entries::path(d, survey, stand);
+    let found = entries::path(of.descriptions, of.words, stand);
     after(rest, found.map(|entry| entry.map(entry_words)))
 }
 
 // Whether each call on devices is refused with that word.
-fn devices_refuse(d: &[u32], survey: &[u32], place: usize, n: u8, word: u32) -> bool {
-    refuses(acceptance::accepted(d, survey), word)
-        && refuses(devices::device(d, survey, place), word)
-        && refuses(devices::upstream_adapter(d, survey, place), word)
-        && refuses(parents::parent_from(d, survey, place), word)
-        && refuses(routing::upstream_route(d, survey, place, n), word)
-        && refuses(routing::downstream_route(d, survey, place, n), word)
+fn devices_refuse(of: Survey<'_>, site: Site, word: u32) -> bool {
+    refuses(acceptance::accepted(of.descriptions, of.words), word)
+        && refuses(devices::device(of.descriptions, of.words, site.place), word)
+        && refuses(
+            devices::upstream_adapter(of.descriptions, of.words, site.place),
+            word,
+        )
+        && refuses(
+            parents::parent_from(of.descriptions, of.words, site.place),
+            word,
+        )
+        && refuses(
+            routing::upstream_route(of.descriptions, of.words, site),
+            word,
+        )
+        && refuses(
+            routing::downstream_route(of.descriptions, of.words, site),
+            word,
+        )
 }
 
 // Whether each call on adapters is.
-fn adapters_refuse(d: &[u32], survey: &[u32], place: usize, n: u8, word: u32) -> bool {
+fn adapters_refuse(of: Survey<'_>, site: Site, word: u32) -> bool {
     let stand = Stand {
-        place,
-        adapter: n,
+        place: site.place,
+        adapter: site.adapter,
         hop_id: 8,
     };
-    refuses(adapters::adapter(d, survey, place, n), word)
-        && refuses(adapters::link_speed(d, survey, place, n), word)
-        && refuses(adapters::max_hop(d, survey, place, n), word)
-        && refuses(capabilities::capability(d, survey, place, n, 4), word)
-        && refuses(entries::path(d, survey, stand), word)
+    refuses(adapters::adapter(of.descriptions, of.words, site), word)
+        && refuses(adapters::link_speed(of.descriptions, of.words, site), word)
+        && refuses(adapters::max_hop(of.descriptions, of.words, site), word)
+        && refuses(
+            capabilities::capability(of.descriptions, of.words, site, 4),
+            word,
+        )
+        && refuses(entries::path(of.descriptions, of.words, stand), word)
 }
 
 // Every call gives the refusal that stands next.
-fn after_every<'a>(
-    rest: &'a [u32],
-    d: &[u32],
-    survey: &[u32],
-    place: usize,
-    n: u8,
-) -> Option<&'a [u32]> {
+fn after_every<'a>(rest: &'a [u32], of: Survey<'_>, site: Site) -> Option<&'a [u32]> {
     let (word, rest) = rest.split_first()?;
-    if devices_refuse(d, survey, place, n, *word)
-        && adapters_refuse(d, survey, place, n, *word)
-        && walk_refuses(d, survey, place, n, *word)
-        && discovery_refuses(d, survey, place, n, *word)
+    if devices_refuse(of, site, *word)
+        && adapters_refuse(of, site, *word)
+        && walk_refuses(of, site, *word)
+        && discovery_refuses(of, site, *word)
     {
         Some(rest)
     } else {
@@ -176,37 +173,39 @@ fn after_every<'a>(
 }
 
 // What follows the question and its answers.
-fn after_question<'a>(rest: &'a [u32], d: &[u32], survey: &[u32]) -> Option<&'a [u32]> {
+fn after_question<'a>(rest: &'a [u32], of: Survey<'_>) -> Option<&'a [u32]> {
     let (question, rest) = rest.split_first()?;
-    let place = (*question / 256 % 1048576) as usize;
-    let n = (*question % 256) as u8;
+    let site = Site {
+        place: (*question / 256 % 1048576) as usize,
+        adapter: (*question % 256) as u8,
+    };
     match *question / 268435456 {
-        0 => after_accepted(rest, d, survey),
-        1 => after_device(rest, d, survey, place),
-        2 => after_adapter(rest, d, survey, place, n),
+        0 => after_accepted(rest, of),
+        1 => after_device(rest, of, site.place),
+        2 => after_adapter(rest, of, site),
         3 => {
             let (hop, rest) = rest.split_first()?;
-            after_entry(rest, d, survey, place, n, (*hop % 65536) as u16)
+            after_entry(rest, of, site, (*hop % 65536) as u16)
         }
         4 => {
             let (cap, rest) = rest.split_first()?;
-            after_cap(rest, d, survey, place, n, *cap)
+            after_cap(rest, of, site, *cap)
         }
-        5 => after_every(rest, d, survey, place, n),
-        6 => after_walk(rest, d, survey, place, n),
-        7 => after_discovery(rest, d, survey, place, n),
+        5 => after_every(rest, of, site),
+        6 => after_walk(rest, of, site),
+        7 => after_discovery(rest, of, site),
         _ => None,
     }
 }
 
 // Whether all questions have their answers. Each is a word at least, so there are at most as many as words: as `while`, each call would want a contract that what follows is shorter.
-fn answers_agree(questions: &[u32], d: &[u32], survey: &[u32]) -> bool {
+fn answers_agree(questions: &[u32], of: Survey<'_>) -> bool {
     let mut rest = questions;
     for _ in 0..questions.len() {
         if rest.is_empty() {
             return true;
         }
-        match after_question(rest, d, survey) {
+        match after_question(rest, of) {
             Some(next) => rest = next,
             None => return false,
         }
@@ -215,7 +214,7 @@ fn answers_agree(questions: &[u32], d: &[u32], survey: &[u32]) -> bool {
 }
 
 // The words say how long questions and answers are; then come these, and the survey.
-pub fn survey_agrees(words: &[u32], d: &[u32]) -> bool {
+pub fn survey_agrees(words: &[u32], descriptions: &[u32]) -> bool {
     let [size, rest @ ..] = words else {
         return false;
     };
@@ -224,7 +223,16 @@ pub fn survey_agrees(words: &[u32], d: &[u32]) -> bool {
     };
     let mut survey = [0u32; 16400];
     match cases::list(list, &mut survey) {
-        Some(n) => answers_agree(questions, d, &survey[..n]),
+        Some(n) => {
+            let words = &survey[..n];
+            answers_agree(
+                questions,
+                Survey {
+                    descriptions,
+                    words,
+                },
+            )
+        }
         None => false,
     }
 }

@@ -8,7 +8,7 @@ pub fn rule_agrees(words: &[u32], input: &[u8], scratch: &mut [u32], output: &mu
     let [4, byte, count, rule @ ..] = words else {
         return plain_rule(words, input, scratch, output);
     };
-    let mut text = cases::room::<1000000>();
+    let mut text = input::room::<1000000>();
     let byte = (*byte % 256) as u8;
     long_rule(
         rule,

@@ -1,5 +1,5 @@
--- The results of the exported calls on a survey and on one adapter, as words. Assumes nothing.
-use Rattle.std.specs.Prelude.{Option, None, Some, ℕ, List, [], ◌∷◌}
+-- The results of the exported calls on a survey, on one adapter and for a single walk, as words. Assumes nothing.
+use Rattle.std.specs.Prelude.{Option, None, Some, ℕ, ◌+◌, ◌*◌, cond, List, [], ◌∷◌, ltb}
 use Rattle.usb4.specs.Numbers.{type_number, state_number, speed_number}
 use Rattle.usb4.specs.declared.Speed.{Speed}
 use Rattle.text.specs.Text.{bit}
@@ -21,3 +21,7 @@ info_words i = type_number i.kind ∷ state_number i.state ∷ bit i.lane0 ∷ b
 
 unfoldable pub speed_words : Speed → List ℕ
 speed_words s = speed_number s ∷ []
+
+-- the words of a path of n hops, a head and two words a hop; 0 where 64 bits can't hold them, which is no path's number
+unfoldable pub hop_count_words : ℕ → List ℕ
+hop_count_words n = cond (ltb n 9223372036854775808) (1 + 2 * n) 0 ∷ []

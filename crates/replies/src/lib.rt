@@ -1,16 +1,15 @@
-// What the exported calls answer, in eight words: the calls on a survey and on one adapter.
+// What the exported calls answer, in eight words: the calls on a survey, on one adapter and for a single walk.
 #![tactic(auto)]
 
 ghost use Rattle.std.specs.Prelude.{◌≡◌};
 ghost use Rattle.refusal.specs.Outcome.{value};
 ghost use Rattle.answers.specs.Said.{said, always, perhaps, one};
-ghost use Rattle.replies.specs.Replies.{hop_or, counts_words, info_words, speed_words};
+ghost use Rattle.replies.specs.Replies.{hop_or, counts_words, info_words, hop_count_words};
 ghost use Rattle.refusal.specs.Refusal.{outcome};
 
 use acceptance::Acceptance;
 use adapters::AdapterInfo;
 use refusal::Refusal;
-use usb4::Speed;
 
 // A survey's devices and valid entries.
 pub fn loaded(answer: Result<Acceptance, Refusal>) -> [u64; 8]
@@ -62,23 +61,23 @@ pub fn adapter(answer: Result<AdapterInfo, Refusal>) -> [u64; 8]
     }
 }
 
-// A link speed.
-pub fn link_speed(answer: Result<Speed, Refusal>) -> [u64; 8]
-    ensures { result ≡ said (always speed_words (outcome answer)) }
+// The words of a path of so many hops.
+fn words_of(hops: usize) -> u64
+    ensures { one result ≡ hop_count_words hops }
 {
-    match answer {
-        Ok(s) => answers::result(u32::from(s) as u64),
-        Err(refusal) => answers::refused(refusal),
+    if hops < 9223372036854775808 {
+        return 1 + 2 * (hops as u64);
     }
+    0
 }
 
-// A largest HopID, or none.
-pub fn max_hop(answer: Result<Option<u32>, Refusal>) -> [u64; 8]
-    ensures { result ≡ said (perhaps one (outcome answer)) }
+// The words of a path, or none.
+pub fn walk(answer: Result<Option<usize>, Refusal>) -> [u64; 8]
+    ensures { result ≡ said (perhaps hop_count_words (outcome answer)) }
 {
     match answer {
-        Ok(Some(h)) => answers::result(h as u64),
-        Ok(None) => [0; 8],
+        Ok(Some(n)) => [0, 1, words_of(n), 0, 0, 0, 0, 0],
+        Ok(None) => [0; 8], // no path
         Err(refusal) => answers::refused(refusal),
     }
 }

@@ -79,10 +79,12 @@ module _ (tables : Tables) (i : ℕ) (out : List ℕ) (l : length out ≡ 16384)
         ap (λ s. value (take n s)) (d.writes k.sized es)
         ∙ words_of found out l n (sym (ap outcome e) ∙ d.answers k.sized es);
     within = λ m f. let z : n ≡ m = cc in omega (arith, d.fits n e, d.long);
+    met = λ m f. absurd (let z : ◌≡◌ {A = ℕ} 0 1 = cc in omega arith);
   }
   in_words None e = record {
     answers = λ k es. none_of found (length out) (sym (ap outcome e) ∙ d.answers k.sized es);
     within = λ m f. let z : 0 ≡ m = cc in omega arith;
+    met = λ m f. absurd (let z : ◌≡◌ {A = ℕ} 0 1 = cc in omega arith);
   }
 
   pub in_refusal : (q : Refusal) → r ≡ Err q → Answered tables i (Err q) out'
@@ -90,4 +92,5 @@ module _ (tables : Tables) (i : ℕ) (out : List ℕ) (l : length out ≡ 16384)
   in_refusal q e = record {
     answers = λ k es. refused_of found (length out) l q (sym (ap outcome e) ∙ d.answers k.sized es);
     within = λ m f. absurd (let z : ◌≡◌ {A = ℕ} 0 1 = cc in omega arith);
+    met = λ m f. d.met m (e ∙ (let z : q ≡ m = cc in ap Err z));
   }

@@ -97,6 +97,7 @@ module _ (tables : Tables) (i : ℕ) (out : List ℕ) where
     wants = λ x g. absurd (let z : ◌≡◌ {A = ℕ} 0 1 = cc in omega arith);
     short = λ k es n q. absurd (let z : ◌≡◌ {A = ℕ} 0 1 = cc in omega arith);
     refuses = λ k es m q. absurd (let z : ◌≡◌ {A = ℕ} 0 1 = cc in omega arith);
+    met = λ m q. absurd (let z : ◌≡◌ {A = ℕ} 0 1 = cc in omega arith);
     past = λ h. refl;
     long = refl;
   }
@@ -127,6 +128,7 @@ module _ (tables : Tables) (i : ℕ) (out : List ℕ) where
       wants = λ x g. absurd (let z : ◌≡◌ {A = ℕ} 0 1 = cc in omega arith);
       short = λ k es n q. absurd (let z : ◌≡◌ {A = ℕ} 0 1 = cc in omega arith);
       refuses = λ k es n q. page_refused k es ∙ (let z : m ≡ n = cc in ap refused_by z);
+      met = λ n q. a.met n (e ∙ (let z : m ≡ n = cc in ap Err z));
       past = λ h. absurd (omega arith);
       long = refl;
     }
@@ -158,6 +160,7 @@ module _ (tables : Tables) (i : ℕ) (out : List ℕ) where
             wants = λ x g. absurd (let z : ◌≡◌ {A = ℕ} 0 1 = cc in omega arith);
             short = λ k es m g. absurd (let z : ◌≡◌ {A = ℕ} 0 1 = cc in omega arith);
             refuses = λ k es m g. absurd (let z : ◌≡◌ {A = ℕ} 0 1 = cc in omega arith);
+            met = λ m g. absurd (let z : ◌≡◌ {A = ℕ} 0 1 = cc in omega arith);
             past = λ h. absurd (omega arith);
             long = ap length wrote ∙ length-append s (drop (length s) out) ∙ omega (arith, length-drop (length s) out, room);
           }
@@ -177,6 +180,7 @@ module _ (tables : Tables) (i : ℕ) (out : List ℕ) where
             wants = λ x g. (capped (length s), (let z : x ≡ m = cc in z) ∙ lines_short s out out' p d m q);
             short = λ k es x g. (s, page_words k es, (let z : x ≡ m = cc in z) ∙ lines_short s out out' p d m q);
             refuses = λ k es x g. absurd (let z : ◌≡◌ {A = ℕ} 0 1 = cc in omega arith);
+            met = λ x g. absurd (let z : ◌≡◌ {A = ℕ} 0 1 = cc in omega arith);
             past = λ h. absurd (omega arith);
             long = ap length kept;
           }

@@ -13,7 +13,7 @@ use Rattle.refusal.specs.Outcome.{Outcome, refused, value, bind}
 use Rattle.adapter.specs.Adapter.{AdapterRow}
 use Rattle.tables.specs.Rows.{Rows}
 use Rattle.tables.specs.Packed.{adapter_word}
-use Rattle.refusal.specs.Refusal.{refused_by, outcome}
+use Rattle.refusal.specs.Refusal.{refused_by}
 use Rattle.refusal.specs.declared.Refusal.{Refusal}
 use Rattle.refusal.proofs.Laws.{refused_bind}
 use Rattle.printing.specs.Lines.{is_tunnel, is_hop}
@@ -83,7 +83,7 @@ module _ (x : Rows) (total : ℕ) (y : AdapterRow) (ys : List AdapterRow) where
 
 module _ (tables : Tables) where
   pub tries_larger : (Fits tables → ⊥) → Tries tables (Ok 0)
-  tries_larger z = record { answers = λ k es. absurd (z k); larger = λ f. refl; few = λ n q. let e : 0 ≡ n = cc in omega arith }
+  tries_larger z = record { answers = λ k es. absurd (z k); larger = λ f. refl; few = λ n q. let e : 0 ≡ n = cc in omega arith; met = λ m q. absurd (let z : ◌≡◌ {A = ℕ} 0 1 = cc in omega arith) }
 
   pub none_tried : Trying tables 0 0
   unfolding total_with rows_of
@@ -116,6 +116,7 @@ module _ (tables : Tables) where
           ∙ t.whole k es;
       larger = λ z. absurd (z f);
       few = λ n q. absurd (let z : ◌≡◌ {A = ℕ} 0 1 = cc in omega arith);
+      met = λ n q. a.met n (e ∙ q);
     }
 
     pub tries_all : length tables.adapters.now ≤ i → Fits tables → Tries tables (Ok total)
@@ -127,4 +128,5 @@ module _ (tables : Tables) where
           ∙ t.whole k es;
       larger = λ z. absurd (z f);
       few = λ n q. let e : total ≡ n = cc in omega (arith, t.few, t.past);
+      met = λ m q. absurd (let z : ◌≡◌ {A = ℕ} 0 1 = cc in omega arith);
     }

@@ -2,7 +2,7 @@
 use Rattle.std.specs.Prelude.{ℕ, ◌≤◌, ◌≡◌, List, length, take, get_or, Result, Ok, Err}
 use Rattle.refusal.specs.Outcome.{Outcome, value}
 use Rattle.tables.specs.Packed.{adapter_word}
-use Rattle.refusal.specs.Refusal.{refused_by}
+use Rattle.refusal.specs.Refusal.{refused_by, IsMet}
 use Rattle.refusal.specs.declared.Refusal.{Refusal}
 use Rattle.report.specs.Report.{answer_of}
 use Rattle.tables.specs.declared.Tables.{Tables}
@@ -16,3 +16,4 @@ words_outcome (Err r) ws = refused_by r
 pub record Answered (tables : Tables) (k : ℕ) (r : Result ℕ Refusal) (ws : List ℕ) : Type 0 where
   pub answers : Fits tables → Tabled tables → words_outcome r ws ≡ answer_of (rows_of tables) (adapter_word (get_or tables.adapters.now k 0))
   pub within : (n : ℕ) → r ≡ Ok n → n ≤ length ws
+  pub met : (m : Refusal) → r ≡ Err m → IsMet m

@@ -6,7 +6,7 @@ ghost use Rattle.report.specs.Tables.{Tries, Paged};
 ghost use Rattle.report.specs.Work.{Answered};
 ghost use Rattle.tables.specs.Tables.{Fits};
 
-use refusal::Refusal;
+use refusal::{Refusal, Site};
 use tables::Tables;
 
 // Result words that there is room for in each answer.
@@ -29,7 +29,7 @@ fn larger(tables: &Tables) -> bool
     if MOST_ADAPTERS < tables.adapters.len() {
         return true;
     }
-    MOST_DEVICES < tables.routes.len()
+    MOST_DEVICES < tables.devices.len()
 }
 
 // The result words of the adapter at an index of the table.
@@ -38,9 +38,11 @@ fn answer_at(tables: &Tables, index: usize, words: &mut [u32]) -> Result<usize, 
     ensures { Answered tables.now index result words.new }
 {
     let word = tables.adapters[index];
-    let place = (word / 281474976710656) as usize;
-    let number = (word / 1099511627776 % 256) as u8;
-    let found = discovery::discover_in(tables, place, number, words);
+    let site = Site {
+        place: (word / 281474976710656) as usize,
+        adapter: (word / 1099511627776 % 256) as u8,
+    };
+    let found = discovery::discover_in(tables, site, words);
     let count = found?;
     Ok(count.unwrap_or(0))
 }

@@ -37,7 +37,7 @@ fn after_text<'a>(stored: &'a [u8], text: &[u8]) -> Option<&'a [u8]> {
     match (answer, opened.loaded.tables()) {
         (Ok(tunnels), Ok(tables)) => {
             // As much as the program lends for a page.
-            let mut buffer = cases::room::<786432>();
+            let mut buffer = input::room::<786432>();
             after_pages(after_total(stored, tunnels)?, &tables, &mut buffer)
         }
         (Ok(_), Err(refusal)) => after_refused(stored, refusal),

@@ -14,11 +14,11 @@ struct Texts;
 
 fn text_agrees(text: &[u8], printed: &[u8]) -> bool {
     // As much as the program reads.
-    let mut bytes = cases::room::<65537>();
+    let mut bytes = input::room::<65537>();
     let Some(n) = cases::bytes(text, &mut bytes) else {
         return false;
     };
-    let mut stored = cases::room::<131072>();
+    let mut stored = input::room::<131072>();
     match cases::bytes(printed, &mut stored) {
         Some(m) => answer::is_printed(&stored[..m], &bytes[..n]),
         None => false,

@@ -6,7 +6,7 @@ use Rattle.refusal.specs.declared.Fault.{Fault}
 use Rattle.adapter.specs.Adapter.{AdapterRow, facts_row}
 use Rattle.adapter.specs.declared.Facts.{Facts}
 use Rattle.tables.specs.Rows.{DeviceRow}
-use Rattle.tables.specs.Found.{device_row}
+use Rattle.tables.specs.Packed.{device_row}
 use Rattle.tables.specs.declared.DeviceFacts.{DeviceFacts}
 
 -- what is answered of a device at place p and an adapter of it is what f says

@@ -1,5 +1,5 @@
 -- Document 01, module 3: lines and their tokens; bytes above 127. Assumes nothing.
-use Rattle.std.specs.Prelude.{ℕ, suc, ◌+◌, ◌-◌, Bool, cond, not, ◌||◌, List, [], ◌∷◌, eqb, ltb, length, take, drop, ◌≡◌}
+use Rattle.std.specs.Prelude.{ℕ, suc, ◌+◌, ◌-◌, Bool, cond, not, ◌||◌, List, [], ◌∷◌, eqb, ltb, take, drop, ◌≡◌}
 use Rattle.scan.specs.declared.Part.{Part}
 
 -- tab, LF, FF, CR, space

@@ -7,7 +7,8 @@ use mathlib.Core.List.{List}
 use Rattle.std.proofs.lemmas.Option.{none-some, same_Some}
 use native.Mathlib.Omega.{arith}
 use lib.Dec.{eqb}
-use borrow.Author.Tests.{ne_eqb}
+use borrow.Author.Tests.{eq-eqb, ne_eqb}
+use native.Mathlib.Decide.{ℕ_discrete}
 use Rattle.refusal.specs.Outcome.{value}
 use Rattle.refusal.specs.Refusal.{refusal_of, field_at}
 use Rattle.refusal.specs.declared.Site.{Site}
@@ -101,8 +102,9 @@ module _ (t : List ℕ) (p a : ℕ) where
               (v.0, v.1, ap (λ (z : AdapterRow). z.device) v.2, ap (λ (z : AdapterRow). z.number) v.2 ∙ v.3, ap (λ (z : AdapterRow). is_lane z.kind) v.2 ∙ k ∙ same_Some b c (sym g ∙ q));
         }
 
-    pub lane_found_lem : w / 65536 % 16 ≡ 2 → LaneSought t p a (Some true)
-    lane_found_lem q = lane_by_lem true (Some true) refl (type_lane (w / 65536 % 16) q)
-
-    pub lane_other : (w / 65536 % 16 ≡ 2 → ⊥) → LaneSought t p a (Some false)
-    lane_other q = lane_by_lem false (Some false) refl (type_other (w / 65536 % 16) q)
+    pub lane_told : LaneSought t p a (Some (eqb (w / 65536 % 16) 2))
+    lane_told = go (ℕ_discrete (w / 65536 % 16) 2)
+      where
+        go : Dec (w / 65536 % 16 ≡ 2) → LaneSought t p a (Some (eqb (w / 65536 % 16) 2))
+        go (yes q) = rw (eq-eqb _ 2 q) (lane_by_lem true (Some true) refl (type_lane (w / 65536 % 16) q))
+        go (no q) = rw (ne_eqb _ 2 q) (lane_by_lem false (Some false) refl (type_other (w / 65536 % 16) q))

@@ -1,5 +1,5 @@
 -- Whether an adapter is a lane. Assumes nothing.
-use Rattle.std.specs.Prelude.{ℕ, ◌<◌, ◌≡◌, Bool, true, false, List, length, get_or, Option, None, Some}
+use Rattle.std.specs.Prelude.{ℕ, ◌<◌, ◌≡◌, Bool, List, length, get_or, Option, None, Some}
 use Rattle.adapter.specs.Adapter.{AdapterRow, is_lane}
 use Rattle.tables.specs.Rows.{adapter_in}
 use Rattle.tables.specs.Packed.{adapter_word, adapters_in, adapter_unit, Sorted}

@@ -1,4 +1,4 @@
-// Searches in the tables of path entries and adapters, by key. Any words will do; where a table's keys fall, what is found is free.
+// Searches in the tables of path entries and adapters, by key. Any words will do; where a table's keys fall, what is found is free. A place and a number stay two parameters, and no site: they come of two things, a place and the adapter that an entry or a route names, and go into a key.
 #![tactic(auto)]
 
 ghost use Rattle.search.specs.Ahead.{HopAhead};
@@ -10,6 +10,7 @@ ghost use Rattle.adapter.specs.Paths.{entry_out};
 
 use adapter::{EntryOut, Facts};
 use tables::Stand;
+use usb4::AdapterType;
 
 // A HopID and what its entry leads to.
 #[derive(Clone, Copy)]
@@ -108,8 +109,5 @@ pub fn find_lane(adapters: &[u64], place: usize, number: u8) -> Option<bool>
     let Some(w) = adapter_word(adapters, place, number) else {
         return None;
     };
-    if w / 65536 % 16 == 2 {
-        return Some(true);
-    }
-    Some(false)
+    Some(w / 65536 % 16 == AdapterType::Lane as u64)
 }

@@ -11,7 +11,7 @@ use lib.Dec.{eqb}
 use lib.ListN.{length}
 use borrow.Author.Tests.{lt-ltb, le-ltb, eq-eqb, ne_eqb}
 use Rattle.refusal.specs.Outcome.{Outcome, refused, value, bind}
-use Rattle.refusal.specs.Refusal.{at, refusal_of, fault_outcome, field_at}
+use Rattle.refusal.specs.Refusal.{at, refusal_of, fault_outcome, field_at, field_read}
 use Rattle.refusal.specs.declared.Site.{Site}
 use Rattle.refusal.specs.declared.Fault.TheVariants.{NoField, GenTOffset}
 use Rattle.util.specs.Text.{bytes_of}
@@ -30,15 +30,12 @@ use Rattle.layout.specs.Description.{Description, described, descriptions_of}
 use Rattle.layout.proofs.Laws.{one_less}
 use Rattle.naming.specs.Naming.{naming, place_of}
 use Rattle.naming.specs.declared.Sought.{Sought}
-use Rattle.fields.specs.Names.{find_field}
-use Rattle.metadata.specs.Calls.{value_in, flag_in}
+use Rattle.metadata.specs.Calls.{flag_in}
 use Rattle.metadata.proofs.Named.{named_from, found_at, found_none}
 use Rattle.survey.specs.Devices.{register_in}
 use Rattle.listing.proofs.Laws.{after_end}
 use Rattle.listing.specs.After.{after, listed, register_at, NextRegister}
-use Rattle.named.proofs.Laws.{wanted_field_lem, wanted_flag_lem}
-use Rattle.named.specs.Named.{Named, adapter_space, named, by_name, sited, wanted_field, wanted_flag, named_at, Within, named_in}
-use Rattle.refusal.specs.Refusal.{field_read, fault_outcome, field_at}
+use Rattle.named.specs.Named.{Named, adapter_space, named, by_name, sited, wanted_field, wanted_flag, named_at, Within, named_in, read_field, read_flag}
 use Rattle.named.specs.declared.NamedAt.{NamedAt}
 use Rattle.state.specs.State.{by_offset, both_set, enabled_if, by_flag, by_flags, lane_state, port_set, ports, gen_tState, of_kind, state_of, has_speed, speed_in, link_speed}
 use Rattle.state.specs.Work.{OffsetAt}
@@ -83,18 +80,28 @@ module _ (s : Site) where
   unfolding enabled_if bind sited
   enabled_set r k = ap (λ x. enabled (sited s (field_read x))) (sym k)
 
+-- flags of a register with its description
+its_flag : (s : Site) (n : Named) (r : Result Bool FieldError) (name : List ℕ) → field_read r ≡ read_flag n name → sited s (field_read r) ≡ wanted_flag s n.register (Some n.description) name
+unfolding wanted_flag
+its_flag s n r name h = ap (sited s) h
+
+its_flags : (s : Site) (n : Named) (r : Result Bool FieldError) (first second : List ℕ) → field_read r ≡ both_set (read_flag n first) (read_flag n second)
+    → sited s (field_read r) ≡ both_set (wanted_flag s n.register (Some n.description) first) (wanted_flag s n.register (Some n.description) second)
+unfolding wanted_flag
+its_flags s n r first second h = ap (sited s) h ∙ sited_both s _ _
+
 -- by a register that is found by name, or isn't
 module _ (t v : List ℕ) (f : Option NamedAt) (n : Option Named) (e : named_at t v f ≡ n) where
-  abbrev at_place : ℕ → ℕ → Named
-  at_place i g = record { register = register_at v i; description = described t g }
+  abbrev found : NamedAt → Named
+  found a = record { register = register_at v a.register; description = described t a.group }
 
   no_name : f ≡ None → None ≡ n
   unfolding named_at
   no_name k = sym (ap (named_at t v) k) ∙ e
 
-  has_name : (i g : ℕ) → f ≡ named_in i g → Some (at_place i g) ≡ n
+  has_name : (a : NamedAt) → f ≡ Some a → Some (found a) ≡ n
   unfolding named_at
-  has_name i g k = sym (ap (named_at t v) k) ∙ e
+  has_name a k = sym (ap (named_at t v) k) ∙ e
 
   pub flag_nowhere : (s : Site) (name : List ℕ) → f ≡ None → value state.Unknown ≡ by_flag s name n
   unfolding by_flag
@@ -116,69 +123,55 @@ module _ (t v : List ℕ) (f : Option NamedAt) (n : Option Named) (e : named_at 
   unfolding speed_in
   speed_nowhere s k = ap (speed_in s) (no_name k)
 
-  -- its value is w
-  module _ (i g : ℕ) (k : f ≡ named_in i g) (w : ℕ) (ew : w ≡ word v (i + 3)) (s : Site) where
-    its_flag : (r : Result Bool FieldError) (name : List ℕ) → field_read r ≡ flag_in w name (Some (described t g)) → sited s (field_read r) ≡ wanted_flag s (register_at v i) (Some (described t g)) name
-    unfolding register_at register_in register_of
-    its_flag r name h = wanted_flag_lem s t v i g r name (h ∙ ap (λ x. flag_in x name (Some (described t g))) ew)
+  module _ (a : NamedAt) (k : f ≡ Some a) (s : Site) where
+    module _ (r : Result Bool FieldError) where
+      pub flag_at : (name : List ℕ) → field_read r ≡ read_flag (found a) name → bind (sited s (field_read r)) (λ b. value (enabled_if b)) ≡ by_flag s name n
+      unfolding by_flag
+      flag_at name h = ap (enabled s) (its_flag s (found a) r name h) ∙ ap (by_flag s name) (has_name a k)
 
-    its_field : (r : Result ℕ FieldError) (name : List ℕ) → field_read r ≡ value_in w (find_field name (described t g).fields) → sited s (field_read r) ≡ wanted_field s (at_place i g) name
-    unfolding register_at register_in register_of
-    its_field r name h = wanted_field_lem s t v i g r name (h ∙ ap (λ x. value_in x (find_field name (described t g).fields)) ew)
-
-    pub flag_at : (r : Result Bool FieldError) (name : List ℕ) → field_read r ≡ flag_in w name (Some (described t g)) → bind (sited s (field_read r)) (λ b. value (enabled_if b)) ≡ by_flag s name n
-    unfolding by_flag
-    flag_at r name h = ap (enabled s) (its_flag r name h) ∙ ap (by_flag s name) (has_name i g k)
-
-    its_flags : (r : Result Bool FieldError) (first second : List ℕ) → field_read r ≡ both_set (flag_in w first (Some (described t g))) (flag_in w second (Some (described t g)))
-        → sited s (field_read r) ≡ both_set (wanted_flag s (register_at v i) (Some (described t g)) first) (wanted_flag s (register_at v i) (Some (described t g)) second)
-    unfolding wanted_flag register_at register_in register_of
-    its_flags r first second h =
-        ap (sited s) (h ∙ ap (λ x. both_set (flag_in x first (Some (described t g))) (flag_in x second (Some (described t g)))) ew) ∙ sited_both s _ _
-
-    pub flags_at : (r : Result Bool FieldError) (first second : List ℕ) → field_read r ≡ both_set (flag_in w first (Some (described t g))) (flag_in w second (Some (described t g)))
-        → bind (sited s (field_read r)) (λ b. value (enabled_if b)) ≡ by_flags s first second n
-    unfolding by_flags
-    flags_at r first second h = ap (enabled s) (its_flags r first second h) ∙ ap (by_flags s first second) (has_name i g k)
+      pub flags_at : (first second : List ℕ) → field_read r ≡ both_set (read_flag (found a) first) (read_flag (found a) second) → bind (sited s (field_read r)) (λ b. value (enabled_if b)) ≡ by_flags s first second n
+      unfolding by_flags
+      flags_at first second h = ap (enabled s) (its_flags s (found a) r first second h) ∙ ap (by_flags s first second) (has_name a k)
 
     -- a field of it is missing, or has a value
-    its_value : (r : Result ℕ FieldError) (name : List ℕ) → field_read r ≡ value_in w (find_field name (described t g).fields) → (x : ℕ) → r ≡ Ok x → value x ≡ wanted_field s (at_place i g) name
-    unfolding sited
-    its_value r name h x m = ap (λ z. sited s (field_read z)) (sym m) ∙ its_field r name h
-
-    its_lack : (r : Result ℕ FieldError) (name : List ℕ) → field_read r ≡ value_in w (find_field name (described t g).fields) → r ≡ (Err field.NoField) → refused 6 (at s) ≡ wanted_field s (at_place i g) name
-    unfolding sited
-    its_lack r name h m = ap (λ z. sited s (field_read z)) (sym m) ∙ its_field r name h
-
     module _ (r : Result ℕ FieldError) where
-      pub lane_lacks : field_read r ≡ value_in w (find_field (bytes_of "Adapter State") (described t g).fields) → r ≡ (Err field.NoField) → fault_outcome (Err (NoField s)) ≡ lane_state s n
-      unfolding refusal_of lane_state bind
-      lane_lacks h m = ap (λ o. bind o (λ x. value (lane_state_of x))) (its_lack r _ h m) ∙ ap (lane_state s) (has_name i g k)
+      its_value : (name : List ℕ) → field_read r ≡ read_field (found a) name → (x : ℕ) → r ≡ Ok x → value x ≡ wanted_field s (found a) name
+      unfolding sited wanted_field
+      its_value name h x m = ap (λ z. sited s (field_read z)) (sym m) ∙ ap (sited s) h
 
-      pub lane_has : field_read r ≡ value_in w (find_field (bytes_of "Adapter State") (described t g).fields) → (x : ℕ) → r ≡ Ok x → (a : State) → a ≡ lane_state_of x → fault_outcome (Ok a) ≡ lane_state s n
-      unfolding lane_state bind
-      lane_has h x m a q = ap value q ∙ ap (λ o. bind o (λ x. value (lane_state_of x))) (its_value r _ h x m) ∙ ap (lane_state s) (has_name i g k)
+      its_lack : (name : List ℕ) → field_read r ≡ read_field (found a) name → r ≡ (Err field.NoField) → refused 6 (at s) ≡ wanted_field s (found a) name
+      unfolding sited wanted_field
+      its_lack name h m = ap (λ z. sited s (field_read z)) (sym m) ∙ ap (sited s) h
 
-      pub gen_t_lacks : (ds : List Description) (kind : ℕ) (rs : List Register) → field_read r ≡ value_in w (find_field (bytes_of "Gen T Port Count") (described t g).fields) → r ≡ (Err field.NoField)
-          → fault_outcome (Err (NoField s)) ≡ gen_tState ds s kind rs n
-      unfolding refusal_of gen_tState bind
-      gen_t_lacks ds kind rs h m = ap (λ o. bind o (λ c. ports ds s kind rs (register_at v i).offset 0 (c % 65536))) (its_lack r _ h m) ∙ ap (gen_tState ds s kind rs) (has_name i g k)
+      module _ (h : field_read r ≡ read_field (found a) (bytes_of "Adapter State")) where
+        pub lane_lacks : r ≡ (Err field.NoField) → fault_outcome (Err (NoField s)) ≡ lane_state s n
+        unfolding refusal_of lane_state bind
+        lane_lacks m = ap (λ o. bind o (λ x. value (lane_state_of x))) (its_lack _ h m) ∙ ap (lane_state s) (has_name a k)
 
-      pub gen_t_has : (ds : List Description) (kind : ℕ) (rs : List Register) → field_read r ≡ value_in w (find_field (bytes_of "Gen T Port Count") (described t g).fields) → (x : ℕ) → r ≡ Ok x
-          → (head : ℕ) → head ≡ word v i → ports ds s kind rs (head % 65536) 0 (x % 65536) ≡ gen_tState ds s kind rs n
-      unfolding gen_tState bind register_at register_in register_of
-      gen_t_has ds kind rs h x m head q =
-          ap (λ z. ports ds s kind rs (z % 65536) 0 (x % 65536)) q
-          ∙ ap (λ o. bind o (λ c. ports ds s kind rs (register_at v i).offset 0 (c % 65536))) (its_value r _ h x m)
-          ∙ ap (gen_tState ds s kind rs) (has_name i g k)
+        pub lane_has : (x : ℕ) → r ≡ Ok x → (c : State) → c ≡ lane_state_of x → fault_outcome (Ok c) ≡ lane_state s n
+        unfolding lane_state bind
+        lane_has x m c q = ap value q ∙ ap (λ o. bind o (λ x. value (lane_state_of x))) (its_value _ h x m) ∙ ap (lane_state s) (has_name a k)
 
-      pub speed_lacks : field_read r ≡ value_in w (find_field (bytes_of "Current Link Speed") (described t g).fields) → r ≡ (Err field.NoField) → field_at s (Err field.NoField) ≡ speed_in s n
-      unfolding refusal_of speed_in bind
-      speed_lacks h m = ap (λ o. bind o (λ x. value (speed_of x))) (its_lack r _ h m) ∙ ap (speed_in s) (has_name i g k)
+      module _ (h : field_read r ≡ read_field (found a) (bytes_of "Gen T Port Count")) (ds : List Description) (kind : ℕ) (rs : List Register) where
+        pub gen_t_lacks : r ≡ (Err field.NoField) → fault_outcome (Err (NoField s)) ≡ gen_tState ds s kind rs n
+        unfolding refusal_of gen_tState bind
+        gen_t_lacks m = ap (λ o. bind o (λ c. ports ds s kind rs (register_at v a.register).offset 0 (c % 65536))) (its_lack _ h m) ∙ ap (gen_tState ds s kind rs) (has_name a k)
 
-      pub speed_has : field_read r ≡ value_in w (find_field (bytes_of "Current Link Speed") (described t g).fields) → (x : ℕ) → r ≡ Ok x → (a : Speed) → a ≡ speed_of x → field_at s (Ok a) ≡ speed_in s n
-      unfolding speed_in bind
-      speed_has h x m a q = ap value q ∙ ap (λ o. bind o (λ x. value (speed_of x))) (its_value r _ h x m) ∙ ap (speed_in s) (has_name i g k)
+        pub gen_t_has : (x : ℕ) → r ≡ Ok x → (head : ℕ) → head ≡ word v a.register → ports ds s kind rs (head % 65536) 0 (x % 65536) ≡ gen_tState ds s kind rs n
+        unfolding gen_tState bind register_at register_in register_of
+        gen_t_has x m head q =
+            ap (λ z. ports ds s kind rs (z % 65536) 0 (x % 65536)) q
+            ∙ ap (λ o. bind o (λ c. ports ds s kind rs (register_at v a.register).offset 0 (c % 65536))) (its_value _ h x m)
+            ∙ ap (gen_tState ds s kind rs) (has_name a k)
+
+      module _ (h : field_read r ≡ read_field (found a) (bytes_of "Current Link Speed")) where
+        pub speed_lacks : r ≡ (Err field.NoField) → field_at s (Err field.NoField) ≡ speed_in s n
+        unfolding refusal_of speed_in bind
+        speed_lacks m = ap (λ o. bind o (λ x. value (speed_of x))) (its_lack _ h m) ∙ ap (speed_in s) (has_name a k)
+
+        pub speed_has : (x : ℕ) → r ≡ Ok x → (c : Speed) → c ≡ speed_of x → field_at s (Ok c) ≡ speed_in s n
+        unfolding speed_in bind
+        speed_has x m c q = ap value q ∙ ap (λ o. bind o (λ x. value (speed_of x))) (its_value _ h x m) ∙ ap (speed_in s) (has_name a k)
 
 -- the words of a register that is found are there
 pub found_within : (n : ℕ) (f : Option NamedAt) (i g : ℕ) → Within n f → f ≡ named_in i g → i + 4 ≤ n
@@ -257,9 +250,11 @@ module _ (t v : List ℕ) (from o i k : ℕ) (s : Site) (h : OffsetAt v from o i
           go : (d : Description) × (naming (sought ids vs) (descriptions_of t) ≡ Some d) × (d.place ≡ g) → naming (sought ids vs) (descriptions_of t) ≡ Some (described t g)
           go (d, q, p) = q ∙ ap Some ((named_from t (sought ids vs) d q).is ∙ ap (described t) p)
 
-      pub port_named : (g : ℕ) → f ≡ Some g → (w : ℕ) → w ≡ word v (i + 3) → (r : Result Bool FieldError)
-          → field_read r ≡ both_set (flag_in w (bytes_of "PE") (Some (described t g))) (flag_in w (bytes_of "V") (Some (described t g))) → sited s (field_read r) ≡ port
-      port_named g m w ew r q = its_flags t v (named_in i g) _ refl i g refl w ew s r _ _ q ∙ by_named _ (group_named g m)
+      abbrev port_by : ℕ → Named
+      port_by g = record { register = register_at v i; description = described t g }
+
+      pub port_named : (g : ℕ) → f ≡ Some g → (r : Result Bool FieldError) → field_read r ≡ both_set (read_flag (port_by g) (bytes_of "PE")) (read_flag (port_by g) (bytes_of "V")) → sited s (field_read r) ≡ port
+      port_named g m r q = its_flags s (port_by g) r _ _ q ∙ by_named _ (group_named g m)
 
 -- all ports
 pub ports_all : (ds : List Description) (s : Site) (k : ℕ) (rs : List Register) (cap count : ℕ) → ports ds s k rs cap 0 (count - 0) ≡ ports ds s k rs cap 0 count
@@ -305,6 +300,20 @@ module _ (ds : List Description) (s : Site) (k : ℕ) (rs : List Register) (cap 
       unfolding bind sited
       ports_clear m = sym (ap (λ x. by_port (sited s (field_read x))) (sym m) ∙ by_flag_lem) ∙ ap (λ x. ports ds s k rs cap x (count - (p + 1))) (sym (add-one p))
 
+-- in other states than these a lane has none
+pub no_speed : (st : State) → (st ≡ state.Cl0 → ⊥) → (st ≡ state.Cl0sTx → ⊥) → (st ≡ state.Cl0sRx → ⊥) → (st ≡ state.Cl1 → ⊥) → (st ≡ state.Cl2 → ⊥) → false ≡ has_speed st
+unfolding has_speed
+no_speed state.Unknown a b c d e = refl
+no_speed state.Disabled a b c d e = refl
+no_speed state.Enabled a b c d e = refl
+no_speed state.Training a b c d e = refl
+no_speed state.Cl0 a b c d e = absurd (a refl)
+no_speed state.Cl0sTx a b c d e = absurd (b refl)
+no_speed state.Cl0sRx a b c d e = absurd (c refl)
+no_speed state.Cl1 a b c d e = absurd (d refl)
+no_speed state.Cl2 a b c d e = absurd (e refl)
+no_speed state.Cld a b c d e = refl
+
 -- a speed, by kind, state and register
 module _ (ds : List Description) (k : AdapterType) (st : State) (rs : List Register) (s : Site) where
   abbrev speed_by_lem : Bool → Bool → Outcome Speed
@@ -334,6 +343,10 @@ module _ (ds : List Description) (s : Site) (k : AdapterType) (rs : List Registe
   unfolding state_of
   no_state (inl e) = rw e refl
   no_state (inr e) = rw e refl
+
+  pub a_lane_state : k ≡ type.Lane → lane_state s (by_name ds adapter_space (type_number k) (bytes_of "LANE_ADP_CS_1") rs) ≡ state_of ds s k rs
+  unfolding state_of of_kind
+  a_lane_state e = rw e refl
 
   pub display_port_state : (k ≡ type.DisplayPortIn) ⊎ (k ≡ type.DisplayPortOut) → by_flags s (bytes_of "VE") (bytes_of "AE") (by_name ds adapter_space (type_number k) (bytes_of "ADP_DP_CS_0") rs) ≡ state_of ds s k rs
   unfolding state_of of_kind

@@ -1,9 +1,9 @@
 -- Document 01, module 5: an adapter's state and link speed, by its kind and its registers. Assumes nothing.
-use Rattle.std.specs.Prelude.{ℕ, zero, suc, ◌+◌, ◌*◌, ◌%◌, Bool, true, false, cond, ◌&&◌, ◌||◌, List, [], ◌∷◌, ltb, eqb, Option, None, Some, Err, Ok, Result}
+use Rattle.std.specs.Prelude.{ℕ, zero, suc, ◌+◌, ◌*◌, ◌%◌, Bool, true, false, cond, ◌&&◌, ◌||◌, List, [], ◌∷◌, ltb, eqb, Option, None, Some}
 use Rattle.refusal.specs.Outcome.{Outcome, value, bind}
-use Rattle.refusal.specs.Refusal.{refusal_of, fault_outcome, field_at}
+use Rattle.refusal.specs.Refusal.{refusal_of}
 use Rattle.refusal.specs.declared.Site.{Site}
-use Rattle.refusal.specs.declared.Fault.TheVariants.{NoField, GenTOffset}
+use Rattle.refusal.specs.declared.Fault.TheVariants.{GenTOffset}
 use Rattle.util.specs.Text.{bytes_of}
 use Rattle.usb4.specs.Codes.{lane_state_of, speed_of}
 use Rattle.usb4.specs.Numbers.{type_number, state_number}
@@ -16,9 +16,6 @@ use Rattle.usb4.specs.declared.Speed.TheVariants as speed
 use Rattle.register.specs.declared.Register.{Register}
 use Rattle.layout.specs.Description.{Description}
 use Rattle.named.specs.Named.{Named, adapter_space, named, by_name, wanted_field, wanted_flag}
-use Rattle.refusal.specs.declared.Fault.{Fault}
-use Rattle.refusal.specs.declared.FieldError.{FieldError}
-use Rattle.refusal.specs.declared.FieldError.TheVariants as field
 
 -- `register_by_offset`: the first register that stands there, named or not
 unfoldable pub by_offset : ℕ → List Register → Option Register
@@ -120,5 +117,3 @@ is_protocol type.Usb3GenTUp = true
 -- `is_enabled`: a host interface always, another protocol adapter by its state
 unfoldable pub is_enabled : AdapterType → State → Bool
 is_enabled k st = eqb (type_number k) (type_number type.HostInterface) || (is_protocol k && eqb (state_number st) (state_number state.Enabled))
-
--- what `parse_state` and `link_speed` answer

@@ -3,23 +3,18 @@ use Prim.Native.Nat.{ℕ, zero, suc, ◌+◌, ◌-◌, ◌*◌, ◌/◌, ◌%◌
 use mathlib.Core.Path.{◌≡◌, refl, sym, ap, ◌∙◌, subst}
 use mathlib.Core.Bool.{Bool, true, false, cond, ◌&&◌, false≢true}
 use mathlib.Core.List.{List, [], ◌∷◌, ◌++◌, map}
-use Rattle.std.specs.Prelude.{Option, None, Some, Result}
+use Rattle.std.specs.Prelude.{Option, None, Some, Result, slice_get}
 use Rattle.std.proofs.lemmas.Option.{same_Some, none-some}
 use native.Mathlib.Omega.{arith}
-use native.Mathlib.Decide.{dec_lt, ℕ_discrete}
-use native.Mathlib.Numerals.{add-one}
+use native.Mathlib.Decide.{dec_lt}
 use lib.Dec.{eqb}
-use lib.ListN.{length, get_or, take, drop, drop_of_length-le}
-use lib.Seq.{get_or-take, drop-cons}
-use borrow.Author.Tests.{eq-eqb, ne_eqb, eqb-true}
+use lib.ListN.{length, get_or, take}
+use lib.Seq.{get_or-take}
+use borrow.Author.Tests.{eq-eqb, eqb-true}
 use Rattle.refusal.specs.Outcome.{value}
-use Rattle.refusal.specs.Refusal.{refusal_of, field_at}
+use Rattle.refusal.specs.Refusal.{field_at}
 use Rattle.refusal.specs.declared.Site.{Site}
-use Rattle.refusal.specs.declared.Fault.TheVariants.{NoField}
-use Rattle.usb4.specs.Codes.{device_kind_of}
-use Rattle.usb4.specs.Numbers.{type_number, state_number, speed_number, device_kind_number}
-use Rattle.usb4.specs.declared.Kind.{Kind}
-use Rattle.usb4.specs.declared.Kind.TheVariants as kind
+use Rattle.usb4.specs.Numbers.{type_number, state_number, speed_number}
 use Rattle.usb4.specs.declared.AdapterType.{AdapterType}
 use Rattle.usb4.specs.declared.AdapterType.TheVariants as type
 use Rattle.usb4.specs.declared.State.{State}
@@ -28,9 +23,10 @@ use Rattle.usb4.specs.declared.Speed.{Speed}
 use Rattle.usb4.specs.declared.Speed.TheVariants as speed
 use Rattle.adapter.specs.Adapter.{AdapterRow, facts_row}
 use Rattle.adapter.specs.declared.Facts.{Facts}
-use Rattle.tables.specs.Rows.{EntryRow, entry_in, adapter_in, device_in, is_router, router_from}
-use Rattle.tables.specs.Packed.{entry_word, adapter_word, device_word, entries_in, adapters_in, devices_from, entry_unit, adapter_unit, Sorted, type_by, state_by, speed_by, number_by, upstream_by}
-use Rattle.tables.specs.Found.{Boundary, EntrySought, AdapterSought, entry_found, adapter_found, device_row}
+use Rattle.tables.specs.declared.DeviceFacts.{DeviceFacts}
+use Rattle.tables.specs.Rows.{EntryRow, DeviceRow, entry_in, adapter_in, device_in}
+use Rattle.tables.specs.Packed.{entry_word, adapter_word, entries_in, adapters_in, device_row, devices_from, entry_unit, adapter_unit, Sorted, type_by, state_by, speed_by, number_by}
+use Rattle.tables.specs.Found.{Boundary, EntrySought, AdapterSought, entry_found, adapter_found, device_found}
 use Rattle.refusal.specs.declared.FieldError.{FieldError}
 use Rattle.adapter.specs.Paths.{entry_out}
 
@@ -193,24 +189,21 @@ module _ (t : List ℕ) (p a r : ℕ) (lp : p < 65536) (la : a < 256) (b : Bound
       number : (adapter_word (get_or t r 0)).number ≡ a
       number = (adapter_is p a la (get_or t r 0) e).1
 
+-- ---- the adapter that is found
+
+-- it has the number that was sought
+pub has_number : (xs : List AdapterRow) (p a : ℕ) (z : AdapterRow) → adapter_in xs p a ≡ Some z → z.number ≡ a
+unfolding adapter_in
+has_number [] p a z e = absurd (none-some z e)
+has_number (x ∷ xs) p a z e = go (eqb x.device p) (eqb x.number a) refl (has_number xs p a z) e
+  where
+    go : (b c : Bool) → eqb x.number a ≡ c → (adapter_in xs p a ≡ Some z → z.number ≡ a) → cond (b && c) (Some x) (adapter_in xs p a) ≡ Some z → z.number ≡ a
+    go true true q rest f = sym (ap (λ (y : AdapterRow). y.number) (same_Some x z f)) ∙ eqb-true x.number a q
+    go true false q rest f = rest f
+    go false true q rest f = rest f
+    go false false q rest f = rest f
+
 -- ---- numbers that stand for something else
-
-pub upstream_none : (s : Site) (n : ℕ) → n < 1 → value None ≡ upstream_by s n
-unfolding upstream_by
-upstream_none s zero l = refl
-upstream_none s (suc n) l = absurd (omega arith)
-
-pub upstream_lacks : (s : Site) (n : ℕ) → 1 ≤ n → n < 2 → refusal_of (NoField s) ≡ upstream_by s n
-unfolding upstream_by
-upstream_lacks s zero k l = absurd (omega arith)
-upstream_lacks s (suc zero) k l = refl
-upstream_lacks s (suc (suc n)) k l = absurd (omega arith)
-
-pub upstream_given : (s : Site) (n : ℕ) → 2 ≤ n → value (Some ((n - 2) % 256)) ≡ upstream_by s n
-unfolding upstream_by
-upstream_given s zero k = absurd (omega arith)
-upstream_given s (suc zero) k = absurd (omega arith)
-upstream_given s (suc (suc n)) k = ap (λ (m : ℕ). value (Some (m % 256))) (omega arith)
 
 pub type_round : (k : AdapterType) → type_by (type_number k) ≡ k
 unfolding type_by
@@ -254,87 +247,26 @@ pub facts_made : (w : ℕ) (k : AdapterType) (v : State) (f : Result Speed Field
 unfolding facts_row adapter_word
 facts_made w k v f m e g h j = rw (e, g, h, j) refl
 
-pub device_made : (p r m : ℕ) (k : Kind) (u : Result (Option ℕ) FieldError) → k ≡ device_kind_of (m / 281474976710656 % 16) → ((s : Site) → field_at s u ≡ upstream_by s (m / 4294967296 % 65536))
-    → device_row p (record { kind = k; usb4 = eqb (m / 4503599627370496 % 16) 1; domain = m % 4294967296; route = r; upstream = u }) ≡ device_word p r m
-unfolding device_row device_word
-device_made p r m k u e g = rw (e, g) refl
-
 -- ---- devices
 
-pub device_past_routes : (q : ℕ) (rs ms : List ℕ) (i : ℕ) → length rs ≤ i → None ≡ device_in (devices_from q rs ms) i
+pub device_past : (q : ℕ) (ds : List DeviceFacts) (i : ℕ) → length ds ≤ i → None ≡ device_in (devices_from q ds) i
 unfolding devices_from device_in
-device_past_routes q [] ms i l = refl
-device_past_routes q (r ∷ rs) [] i l = refl
-device_past_routes q (r ∷ rs) (m ∷ ms) zero l = absurd (omega arith)
-device_past_routes q (r ∷ rs) (m ∷ ms) (suc i) l = device_past_routes (suc q) rs ms i (omega arith)
+device_past q [] i l = refl
+device_past q (d ∷ ds) zero l = absurd (omega arith)
+device_past q (d ∷ ds) (suc i) l = device_past (suc q) ds i (omega arith)
 
-pub device_past_marks : (q : ℕ) (rs ms : List ℕ) (i : ℕ) → length ms ≤ i → None ≡ device_in (devices_from q rs ms) i
+pub device_here : (q : ℕ) (ds : List DeviceFacts) (i : ℕ) → i < length ds → (d : DeviceRow) × (Some d ≡ device_in (devices_from q ds) i)
 unfolding devices_from device_in
-device_past_marks q [] ms i l = refl
-device_past_marks q (r ∷ rs) [] i l = refl
-device_past_marks q (r ∷ rs) (m ∷ ms) zero l = absurd (omega arith)
-device_past_marks q (r ∷ rs) (m ∷ ms) (suc i) l = device_past_marks (suc q) rs ms i (omega arith)
+device_here q [] i l = absurd (omega arith)
+device_here q (d ∷ ds) zero l = (device_row q d, refl)
+device_here q (d ∷ ds) (suc i) l = device_here (suc q) ds i (omega arith)
 
 -- place p is the i-th from q on
-pub device_at_lem : (q p : ℕ) (rs ms : List ℕ) (i : ℕ) → p ≡ q + i → i < length rs → i < length ms → Some (device_word p (get_or rs i 0) (get_or ms i 0)) ≡ device_in (devices_from q rs ms) i
-unfolding devices_from device_in
-device_at_lem q p [] ms i e l k = absurd (omega arith)
-device_at_lem q p (r ∷ rs) [] i e l k = absurd (omega arith)
-device_at_lem q p (r ∷ rs) (m ∷ ms) zero e l k = ap (λ (z : ℕ). Some (device_word z r m)) (omega arith)
-device_at_lem q p (r ∷ rs) (m ∷ ms) (suc i) e l k = device_at_lem (suc q) p rs ms i (omega arith) (omega arith) (omega arith)
-
--- ---- routers
-
-kind_one : (n : ℕ) → n ≡ 1 → eqb (device_kind_number (device_kind_of n)) 1 ≡ true
-unfolding device_kind_of
-kind_one n e = rw e refl
-
-kind_other : (n : ℕ) → (n ≡ 1 → ⊥) → eqb (device_kind_number (device_kind_of n)) 1 ≡ false
-unfolding device_kind_of
-kind_other n e = rw (ne_eqb n 1 e) (go (eqb n 0) (eqb n 2) (eqb n 3) (eqb n 4))
-  where
-    go : (a b c d : Bool) → eqb (device_kind_number (cond a kind.Domain (cond false kind.Router (cond b kind.Xdomain (cond c kind.Retimer (cond d kind.Service kind.Unknown)))))) 1 ≡ false
-    go true b c d = refl
-    go false true c d = refl
-    go false false true d = refl
-    go false false false true = refl
-    go false false false false = refl
-
-kind_back : (n : ℕ) → eqb (device_kind_number (device_kind_of n)) 1 ≡ true → n ≡ 1
-kind_back n e = go (ℕ_discrete n 1)
-  where
-    go : Dec (n ≡ 1) → n ≡ 1
-    go (yes p) = p
-    go (no p) = absurd (false≢true (sym (kind_other n p) ∙ e))
-
-and_false : (x y z : Bool) → ((x ≡ true) → (y ≡ true) → (z ≡ true) → ⊥) → (x && y && z) ≡ false
-and_false true true true n = absurd (n refl refl refl)
-and_false true true false n = refl
-and_false true false z n = refl
-and_false false y z n = refl
-
-module _ (rs ms : List ℕ) (d u i : ℕ) where
-  pub router_here : i < length rs → i < length ms → get_or rs i 0 ≡ u → get_or ms i 0 / 281474976710656 % 16 ≡ 1 → get_or ms i 0 % 4294967296 ≡ d
-      → Some i ≡ router_from i (devices_from i (drop i rs) (drop i ms)) d u
-  unfolding devices_from router_from is_router device_word
-  router_here l k e f g = rw (drop-cons rs i 0 l, drop-cons ms i 0 k) (simp (kind_one _ f, eq-eqb _ _ g, eq-eqb _ _ e))
-
-  pub router_on : i < length rs → i < length ms → (get_or rs i 0 ≡ u → get_or ms i 0 / 281474976710656 % 16 ≡ 1 → get_or ms i 0 % 4294967296 ≡ d → ⊥)
-      → router_from i (devices_from i (drop i rs) (drop i ms)) d u ≡ router_from (i + 1) (devices_from (i + 1) (drop (i + 1) rs) (drop (i + 1) ms)) d u
-  unfolding devices_from router_from is_router device_word
-  router_on l k n =
-      rw (add-one i, drop-cons rs i 0 l, drop-cons ms i 0 k)
-      (ap
-      (λ (b : Bool). cond b (Some i) (router_from (suc i) (devices_from (suc i) (drop (suc i) rs) (drop (suc i) ms)) d u))
-      (and_false _ _ _ (λ x y z. n (eqb-true _ _ z) (kind_back _ x) (eqb-true _ _ y))))
-
-  pub router_past_routes : length rs ≤ i → None ≡ router_from i (devices_from i (drop i rs) (drop i ms)) d u
-  unfolding devices_from router_from
-  router_past_routes l = rw (drop_of_length-le rs l) refl
-
-  pub router_past_marks : i < length rs → length ms ≤ i → None ≡ router_from i (devices_from i (drop i rs) (drop i ms)) d u
-  unfolding devices_from router_from
-  router_past_marks k l = rw (drop-cons rs i 0 k, drop_of_length-le ms l) refl
+pub device_there : (q p : ℕ) (ds : List DeviceFacts) (i : ℕ) → p ≡ q + i → device_found p (slice_get ds i) ≡ device_in (devices_from q ds) i
+unfolding devices_from device_in device_found
+device_there q p [] i e = refl
+device_there q p (d ∷ ds) zero e = ap (λ (z : ℕ). Some (device_row z d)) (omega arith)
+device_there q p (d ∷ ds) (suc i) e = device_there (suc q) p ds i (omega arith)
 
 -- ---- order
 

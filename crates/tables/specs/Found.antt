@@ -1,18 +1,11 @@
 -- What the searches in tables answer. Assumes nothing.
-use Rattle.std.specs.Prelude.{ℕ, ◌+◌, ◌-◌, ◌≤◌, ◌<◌, ◌≡◌, List, length, get_or, Option, None, Some, Err, Ok, Result}
-use Rattle.refusal.specs.Outcome.{Outcome, value}
-use Rattle.refusal.specs.Refusal.{refusal_of, field_at}
-use Rattle.refusal.specs.declared.Site.{Site}
-use Rattle.refusal.specs.declared.Fault.TheVariants.{NoField}
-use Rattle.adapter.specs.Adapter.{AdapterRow, adapter_site, facts_row}
+use Rattle.std.specs.Prelude.{ℕ, ◌-◌, ◌≤◌, ◌<◌, ◌≡◌, List, length, get_or, Option, None, Some}
+use Rattle.adapter.specs.Adapter.{AdapterRow, facts_row}
 use Rattle.tables.specs.Rows.{EntryRow, DeviceRow, entry_in, adapter_in}
-use Rattle.tables.specs.Packed.{entry_word, adapter_word, entries_in, adapters_in, entry_unit, adapter_unit, Sorted}
+use Rattle.tables.specs.Packed.{entry_word, adapter_word, device_row, entries_in, adapters_in, entry_unit, adapter_unit, Sorted}
 use Rattle.tables.specs.declared.DeviceFacts.{DeviceFacts}
 use Rattle.adapter.specs.declared.Facts.{Facts}
-use Rattle.refusal.specs.declared.FieldError.{FieldError}
-use Rattle.refusal.specs.declared.FieldError.TheVariants as field
 use Rattle.adapter.specs.declared.EntryOut.{EntryOut}
-use Rattle.adapter.specs.Paths.{entry_out}
 
 -- r is where words that are not below a bound begin, as far as the words beside it tell
 pub record Boundary (t : List ℕ) (bound r : ℕ) : Type 0 where
@@ -40,9 +33,6 @@ pub record AdapterSought (t : List ℕ) (p a : ℕ) (r : Option Facts) : Type 0 
   pub first : p < 65536 → Sorted adapter_unit t → adapter_found p r ≡ adapter_in (adapters_in t) p a
   pub past : 65535 < p → r ≡ None
   pub held : (x : AdapterRow) → adapter_found p r ≡ Some x → (k : ℕ) × (k < length t) × (adapter_word (get_or t k 0) ≡ x) × (x.number ≡ a)
-
-unfoldable pub device_row : ℕ → DeviceFacts → DeviceRow
-device_row p d = record { kind = d.kind; usb4 = d.usb4; domain = d.domain; route = d.route; upstream = field_at (adapter_site p 0) d.upstream }
 
 unfoldable pub device_found : ℕ → Option DeviceFacts → Option DeviceRow
 device_found p (Some d) = Some (device_row p d)

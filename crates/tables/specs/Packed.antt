@@ -1,10 +1,9 @@
--- Rows as words: an entry and an adapter one word, its key in the upper bits; a device one word in each of two tables. Assumes nothing.
-use Rattle.std.specs.Prelude.{ℕ, zero, suc, ◌+◌, ◌-◌, ◌/◌, ◌%◌, ◌^◌, ◌≤◌, ◌<◌, ◌≡◌, cond, List, [], ◌∷◌, map, eqb, length, get_or, Option, None, Some}
+-- Rows as tables hold them: an entry and an adapter one word, its key in the upper bits; a device as it is known. Assumes nothing.
+use Rattle.std.specs.Prelude.{ℕ, zero, suc, ◌/◌, ◌%◌, ◌^◌, ◌≤◌, ◌<◌, cond, List, [], ◌∷◌, map, eqb, length, get_or, Option, None, Some}
 use Rattle.refusal.specs.Outcome.{Outcome, value}
-use Rattle.refusal.specs.Refusal.{refusal_of}
+use Rattle.refusal.specs.Refusal.{refusal_of, field_at}
 use Rattle.refusal.specs.declared.Site.{Site}
 use Rattle.refusal.specs.declared.Fault.TheVariants.{NoField}
-use Rattle.usb4.specs.Codes.{device_kind_of}
 use Rattle.usb4.specs.declared.AdapterType.{AdapterType}
 use Rattle.usb4.specs.declared.AdapterType.TheVariants as type
 use Rattle.usb4.specs.declared.State.{State}
@@ -13,6 +12,7 @@ use Rattle.usb4.specs.declared.Speed.{Speed}
 use Rattle.usb4.specs.declared.Speed.TheVariants as speed
 use Rattle.adapter.specs.Adapter.{AdapterRow, adapter_site}
 use Rattle.tables.specs.Rows.{EntryRow, DeviceRow}
+use Rattle.tables.specs.declared.DeviceFacts.{DeviceFacts}
 
 -- device 16 bits, adapter 8, in HopID 16, out adapter 8, out HopID 16
 unfoldable pub entry_word : ℕ → EntryRow
@@ -59,12 +59,6 @@ number_by s zero = value None
 number_by s (suc zero) = refusal_of (NoField s)
 number_by s (suc (suc n)) = value (Some n)
 
--- the same for an adapter's number, which has eight bits
-unfoldable pub upstream_by : Site → ℕ → Outcome (Option ℕ)
-upstream_by s zero = value None
-upstream_by s (suc zero) = refusal_of (NoField s)
-upstream_by s (suc (suc n)) = value (Some (n % 256))
-
 -- device 16 bits, number 8, largest HopID 20, kind 4, state 4, speed 4, lane 0 4, lane 1 4
 unfoldable pub adapter_word : ℕ → AdapterRow
 adapter_word w = record {
@@ -78,15 +72,9 @@ adapter_word w = record {
   max_hop = number_by (adapter_site (w / 2 ^ 48) (w / 2 ^ 40 % 256)) (w / 2 ^ 20 % 2 ^ 20);
 }
 
--- the device at place p: its route, and USB4 4 bits, kind 4, upstream adapter 16, domain 32
-unfoldable pub device_word : ℕ → ℕ → ℕ → DeviceRow
-device_word p r m = record {
-  kind = device_kind_of (m / 2 ^ 48 % 16);
-  usb4 = eqb (m / 2 ^ 52 % 16) 1;
-  domain = m % 2 ^ 32;
-  route = r;
-  upstream = upstream_by (adapter_site p 0) (m / 2 ^ 32 % 2 ^ 16);
-}
+-- the device at place p
+unfoldable pub device_row : ℕ → DeviceFacts → DeviceRow
+device_row p d = record { kind = d.kind; usb4 = d.usb4; domain = d.domain; route = d.route; upstream = field_at (adapter_site p 0) d.upstream }
 
 abbrev pub entries_in : List ℕ → List EntryRow
 entries_in = map entry_word
@@ -94,14 +82,13 @@ entries_in = map entry_word
 abbrev pub adapters_in : List ℕ → List AdapterRow
 adapters_in = map adapter_word
 
--- the devices of two tables, where the first has place p
-unfoldable pub devices_from : ℕ → List ℕ → List ℕ → List DeviceRow
-devices_from p [] ms = []
-devices_from p (r ∷ rs) [] = []
-devices_from p (r ∷ rs) (m ∷ ms) = device_word p r m ∷ devices_from (suc p) rs ms
+-- the devices of a table, where the first has place p
+unfoldable pub devices_from : ℕ → List DeviceFacts → List DeviceRow
+devices_from p [] = []
+devices_from p (d ∷ ds) = device_row p d ∷ devices_from (suc p) ds
 
-abbrev pub devices_in : List ℕ → List ℕ → List DeviceRow
-devices_in rs ms = devices_from 0 rs ms
+abbrev pub devices_in : List DeviceFacts → List DeviceRow
+devices_in ds = devices_from 0 ds
 
 -- keys are the multiples of a unit; an entry's bits from 24 up, an adapter's from 40 up
 abbrev pub entry_unit : ℕ

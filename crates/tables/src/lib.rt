@@ -5,13 +5,12 @@ use adapter::Facts;
 use refusal::FieldError;
 use usb4::Kind;
 
-// Entries and adapters a word each, and devices a word in each of two tables. specs/Packed.antt says what a word holds.
+// Entries and adapters, a word each, and devices. specs/Packed.antt says what a word holds.
 #[derive(Clone, Copy)]
 pub struct Tables<'a> {
     pub entries: &'a [u64],
     pub adapters: &'a [u64],
-    pub routes: &'a [u64],
-    pub marks: &'a [u64],
+    pub devices: &'a [DeviceFacts],
 }
 
 // Where a walk stands: at an adapter of the device at a place, with a HopID.

@@ -9,7 +9,6 @@ use lib.Dec.{eqb}
 use lib.ListN.{length, get_or}
 use Rattle.refusal.specs.Outcome.{Outcome, refused, value, bind}
 use Rattle.tables.specs.Rows.{EntryRow, Rows}
-use Rattle.tables.specs.Packed.{entries_in}
 use Rattle.refusal.specs.Refusal.{refused_by, of_walk}
 use Rattle.refusal.proofs.Laws.{walk_bind}
 use Rattle.orbit.specs.Walk.{Spot, Spot.stand, Spot.ended, Spot.stopped, found, arrive, turned, made, onward, walk_n}
@@ -130,15 +129,15 @@ path_start x s (e ∷ es) q =
 
 module _ (tables : Tables) (s : Stand) where
   -- and its last hop is made at a device that is there
-  last_there : (e : EntryRow) (es : List EntryRow) → walk_from (rows_of tables) s ≡ value (Some (e ∷ es)) → (last_of e es).device < length tables.routes.now
+  last_there : (e : EntryRow) (es : List EntryRow) → walk_from (rows_of tables) s ≡ value (Some (e ∷ es)) → (last_of e es).device < length tables.devices.now
   unfolding rows_of stand_of
   last_there e es q =
       let x = rows_of tables in
       let h = hopped (rows_of tables) s (e ∷ es) q in
       let w : walk_n (walk_on (rows_of tables)) s (length es) ≡ stand (stand_of (last_of e es)) = (path_rule x s h.count h.one h.ends).stands e (length es) (omega (arith, h.long)) ∙ ap (λ (l : List EntryRow). stand (stand_of (get_or l (length es) e))) h.hops ∙ ap (λ y. stand (stand_of y)) (sym (last_at e e es)) in
-      subst (Below x s (length tables.routes.now) (start_there tables s (e ∷ es) q) goes) w (below x s (length tables.routes.now) (start_there tables s (e ∷ es) q) goes (length es))
+      subst (Below x s (length tables.devices.now) (start_there tables s (e ∷ es) q) goes) w (below x s (length tables.devices.now) (start_there tables s (e ∷ es) q) goes (length es))
     where
-      goes : (p o q a : ℕ) → leads (rows_of tables) p o ≡ value (on q a) → q < length tables.routes.now
+      goes : (p o q a : ℕ) → leads (rows_of tables) p o ≡ value (on q a) → q < length tables.devices.now
       goes p o q a f = there_below tables q (leads_there (rows_of tables) (upstreams tables) p o q a f)
 
   module _ (r : Result (Option Walked) WalkError) (f : Tallied tables s r) (t : Tabled tables) (l : s.place < 65536) where
@@ -150,12 +149,12 @@ module _ (tables : Tables) (s : Stand) where
     unfolding tally_outcome
     tally_absent e = leaves_none (walk_from (rows_of tables) s) (sym (ap tally_outcome e) ∙ f.answers t l) (λ q. let h = hopped (rows_of tables) s [] q in omega (arith, h.one, h.long))
 
-    pub tally_path : (n q a h : ℕ) → r ≡ walked_to n q a h → (hs : List EntryRow) × Went (rows_of tables) s n q a (length tables.routes.now) hs
+    pub tally_path : (n q a h : ℕ) → r ≡ walked_to n q a h → (hs : List EntryRow) × Went (rows_of tables) s n q a (length tables.devices.now) hs
     unfolding tally_outcome leaving leaves_by at
     tally_path n q a h e = go (leaves_some (walk_from (rows_of tables) s) (record { hops = n; place = q; adapter = a; hop_id = h }) (sym (ap tally_outcome e) ∙ f.answers t l))
       where
         go : (y : EntryRow) × (ys : List EntryRow) × (walk_from (rows_of tables) s ≡ value (Some (y ∷ ys))) × (suc (length ys) ≡ n) × ((last_of y ys).device ≡ q) × ((last_of y ys).out_adapter ≡ a)
-            → (hs : List EntryRow) × Went (rows_of tables) s n q a (length tables.routes.now) hs
+            → (hs : List EntryRow) × Went (rows_of tables) s n q a (length tables.devices.now) hs
         go (y, ys, w, c, d, o) = (
           y ∷ ys,
           record {
@@ -164,6 +163,6 @@ module _ (tables : Tables) (s : Stand) where
             start = path_start (rows_of tables) s (y ∷ ys) w;
             leave = λ h. rw (d, o) refl;
             end = λ p b. rw (d, o) refl;
-            there = subst (λ p. p < length tables.routes.now) d (last_there y ys w);
+            there = subst (λ p. p < length tables.devices.now) d (last_there y ys w);
           },
         )

@@ -22,7 +22,7 @@ use Rattle.receive.specs.Receive.{at}
 use Rattle.tunnel.specs.Tunnels.{Path, Tunnel, path, leaving, or_absent, needed, tunnel_of, down_and_up, display_port}
 use Rattle.tunnel.specs.Words.{back_to, last_path, closed_by, closed, paths_words, tunnel_words}
 use Rattle.tunnel.specs.Plans.{Plan, start_of, from_of, plan_of, plan_if, planned_as, planned_outcome, words_by, paths_by, Plans}
-use Rattle.tunnel.specs.Work.{Draws, start_by, leaves_by, last_plan, finished, auxiliary, one_path}
+use Rattle.tunnel.specs.Work.{Draws, start_by, leaves_by, last_plan, finished, auxiliary}
 use Rattle.tunnel.specs.declared.Start.{Start}
 use Rattle.tunnel.specs.declared.Plan.{Plan as Planned}
 use Rattle.tunnel.proofs.Going.{path_start, tally_refused, tally_absent, tally_path}
@@ -180,7 +180,7 @@ module _ (tables : Tables) (p a : ℕ) (kind : TunnelType) (down up : ℕ) (r : 
         let u = tally_path tables _ r f t l n q b h e in
         let ds = u.0 in
         let few = hops_few tables _ r v f n q b h e in
-        d.answers v t (omega (arith, ap (λ (s : Start). s.stand.place) o, u.1.there, t.devices))
+        d.answers v t (omega (arith, ap (λ (s : Start). s.stand.place) o, u.1.there, t.others.devices))
         ∙ ap (λ s. finished x kind (1 + w) 2 s second third) i
         ∙ ap (λ s. finished x kind (1 + w) 2 (start_by (at p a 8) down) s third) j
         ∙ ap (λ s. finished x kind (1 + w) 2 (start_by (at p a 8) down) (start_by (at q b 8) up) s) o
@@ -210,7 +210,7 @@ module _ (tables : Tables) (p a words : ℕ) (r : Result (Option Walked) WalkErr
         let x = rows_of tables in
         let u = tally_path tables _ r f t l n q b h e in
         let few = hops_few tables _ r v f n q b h e in
-        d.answers v t (omega (arith, ap (λ (s : Start). s.stand.place) o, u.1.there, t.devices))
+        d.answers v t (omega (arith, ap (λ (s : Start). s.stand.place) o, u.1.there, t.others.devices))
         ∙ ap (λ s. finished x tunnel_type.DisplayPort (words + w) 3 s second third) i
         ∙ ap (λ s. finished x tunnel_type.DisplayPort (words + w) 3 (start_by (at p a 9) 2) s third) j
         ∙ ap (λ s. finished x tunnel_type.DisplayPort (words + w) 3 (start_by (at p a 9) 2) (start_by (at p a 8) 3) s) (o ∙ ap (λ s. start_by s 4) (sym (u.1.leave 8)))

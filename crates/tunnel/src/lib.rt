@@ -10,7 +10,7 @@ ghost use Rattle.tunnel.specs.Plans.{words_by, paths_by, Plans, RingPlans};
 ghost use Rattle.tunnel.specs.Work.{Draws, finished, auxiliary, alone_plan, with_plan, ring_by, start_by, one_path};
 
 use receive::Received;
-use refusal::WalkError;
+use refusal::{Site, WalkError};
 use tables::{Stand, Tables};
 use usb4::TunnelType;
 
@@ -53,12 +53,12 @@ const DMA_TX: u8 = 7;
 
 const DMA_RX: u8 = 8;
 
-fn starting(place: usize, adapter: u8, hop_id: u16, name: u8) -> Start
-    ensures { result ≡ start_by (at place adapter hop_id) name }
+fn starting(site: Site, hop_id: u16, name: u8) -> Start
+    ensures { result ≡ start_by (at site.place site.adapter hop_id) name }
 {
     let stand = Stand {
-        place,
-        adapter,
+        place: site.place,
+        adapter: site.adapter,
         hop_id,
     };
     Start { stand, name }
@@ -71,11 +71,11 @@ fn path_words(hops: usize) -> usize
     1 + 2 * (hops % 65536)
 }
 
-fn same(place: usize, adapter: u8, other_place: usize, other_adapter: u8) -> bool
-    ensures { result ≡ (eqb place other_place && eqb adapter other_adapter) }
+fn same(site: Site, other: Site) -> bool
+    ensures { result ≡ (eqb site.place other.place && eqb site.adapter other.adapter) }
 {
-    if place == other_place {
-        return adapter == other_adapter;
+    if site.place == other.place {
+        return site.adapter == other.adapter;
     }
     false
 }
@@ -97,10 +97,18 @@ fn finish(
     let Some(w) = walked else {
         return Ok(None);
     };
+    let leaves = Site {
+        place: w.place,
+        adapter: w.adapter,
+    };
     let from = first.stand;
+    let start = Site {
+        place: from.place,
+        adapter: from.adapter,
+    };
     Ok(Some(Plan {
         kind,
-        closed: same(w.place, w.adapter, from.place, from.adapter),
+        closed: same(leaves, start),
         words: words + path_words(w.hops),
         paths,
         first,
@@ -112,54 +120,61 @@ fn finish(
 // USB 3 and PCIe: down from the adapter, then up from where that path leaves.
 pub fn down_and_up(
     tables: &Tables,
-    place: usize,
-    adapter: u8,
+    site: Site,
     kind: TunnelType,
     down: u8,
     up: u8,
 ) -> Result<Option<Plan>, WalkError>
-    ensures { Plans tables.now place (λ x. down_and_up x kind down up place adapter) result }
+    ensures { Plans tables.now site.place (λ x. down_and_up x kind down up site.place site.adapter) result }
 {
-    let first = starting(place, adapter, USB3_HOPID, down);
+    let first = starting(site, USB3_HOPID, down);
     let walked = walk::tally(tables, first.stand)?;
     let Some(w) = walked else {
         return Ok(None);
     };
-    let last = starting(w.place, w.adapter, USB3_HOPID, up);
+    let leaves = Site {
+        place: w.place,
+        adapter: w.adapter,
+    };
+    let last = starting(leaves, USB3_HOPID, up);
     finish(tables, kind, 1 + path_words(w.hops), 2, first, last, last)
 }
 
 // AUX TX and AUX RX, where a tunnel's head and its Video path have so many words.
-fn aux(tables: &Tables, place: usize, adapter: u8, words: usize) -> Result<Option<Plan>, WalkError>
+fn aux(tables: &Tables, site: Site, words: usize) -> Result<Option<Plan>, WalkError>
     requires { words ≤ 131072 }
-    ensures { Draws tables.now place (λ x. auxiliary x place adapter words) result }
+    ensures { Draws tables.now site.place (λ x. auxiliary x site.place site.adapter words) result }
 {
-    let tx = starting(place, adapter, DP_AUX_TX_HOPID, AUX_TX);
+    let tx = starting(site, DP_AUX_TX_HOPID, AUX_TX);
     let walked = walk::tally(tables, tx.stand)?;
     let Some(w) = walked else {
         return Ok(None);
+    };
+    let leaves = Site {
+        place: w.place,
+        adapter: w.adapter,
     };
     finish(
         tables,
         TunnelType::DisplayPort,
         words + path_words(w.hops),
         3,
-        starting(place, adapter, DP_VIDEO_HOPID, VIDEO),
+        starting(site, DP_VIDEO_HOPID, VIDEO),
         tx,
-        starting(w.place, w.adapter, DP_AUX_RX_HOPID, AUX_RX),
+        starting(leaves, DP_AUX_RX_HOPID, AUX_RX),
     )
 }
 
 // DisplayPort: Video, AUX TX, then AUX RX from where AUX TX leaves.
-pub fn display_port(tables: &Tables, place: usize, adapter: u8) -> Result<Option<Plan>, WalkError>
-    ensures { Plans tables.now place (λ x. display_port x place adapter) result }
+pub fn display_port(tables: &Tables, site: Site) -> Result<Option<Plan>, WalkError>
+    ensures { Plans tables.now site.place (λ x. display_port x site.place site.adapter) result }
 {
-    let video = starting(place, adapter, DP_VIDEO_HOPID, VIDEO);
+    let video = starting(site, DP_VIDEO_HOPID, VIDEO);
     let walked = walk::tally(tables, video.stand)?;
     let Some(w) = walked else {
         return Ok(None);
     };
-    aux(tables, place, adapter, 1 + path_words(w.hops))
+    aux(tables, site, 1 + path_words(w.hops))
 }
 
 // A ring's tunnel of one path.
@@ -217,9 +232,17 @@ fn receive_with(
                 stand: p.start,
                 name: DMA_RX,
             };
+            let leaves = Site {
+                place: p.out_place,
+                adapter: p.out_adapter,
+            };
+            let from = Site {
+                place: stand.place,
+                adapter: stand.adapter,
+            };
             Ok(Some(Plan {
                 kind: TunnelType::Dma,
-                closed: same(p.out_place, p.out_adapter, stand.place, stand.adapter),
+                closed: same(leaves, from),
                 words: words + path_words(p.hops),
                 paths: 2,
                 first: tx,

@@ -1,33 +1,19 @@
 // Reads the text of a survey from standard input and prints its tunnels, by our descriptions; or only `refused N`.
 #![tactic(auto)]
 
-ghost use Rattle.std.specs.Prelude.{◌≡◌, length};
-
 use program::Opened;
 use refusal::Refusal;
 use std::io;
 use tables::Tables;
 
-// One byte more than a text may have, so that a longer one is seen. The contract says the length alone, which lending it as a slice needs.
-fn text_room() -> [u8; 65537]
-    ensures { 65537 ≡ length result }
-{
-    [0; 65537]
-}
+// One byte more than a text may have, so that a longer one is seen.
+const TEXT_ROOM: usize = 65537;
 
 // Room for the lines of 16,384 result words, which have at most 43 bytes a word.
-fn page_room() -> [u8; 786432]
-    ensures { 786432 ≡ length result }
-{
-    [0; 786432]
-}
+const PAGE_ROOM: usize = 786432;
 
 // Room for the lines of most adapters. The largest room is made only where it is needed: filling it takes as long as all else of a small survey.
-fn small_room() -> [u8; 8192]
-    ensures { 8192 ≡ length result }
-{
-    [0; 8192]
-}
+const SMALL_ROOM: usize = 8192;
 
 fn write_refused(rt: &impl Print, refusal: Refusal) -> io::Result<()> {
     let number = refusals::numbers_of(refusal).number;
@@ -48,7 +34,7 @@ fn write_total(rt: &impl Print, tunnels: usize) -> io::Result<()> {
 
 // Writes an adapter's lines, by way of a buffer that holds any page.
 fn write_long_page(rt: &impl Print, tables: &Tables, index: usize) -> io::Result<()> {
-    let mut buffer = page_room();
+    let mut buffer = input::room::<PAGE_ROOM>();
     if let Ok(Ok(n)) = report::put_page(tables, index, &mut buffer) {
         rt.write_all(&buffer[..n])?;
     }
@@ -93,7 +79,7 @@ fn write_pages(
 
 // Writes each adapter's lines.
 fn write_tables(rt: &impl Print, tables: &Tables) -> io::Result<()> {
-    let mut buffer = small_room();
+    let mut buffer = input::room::<SMALL_ROOM>();
     write_pages(rt, tables, 0, tables.adapters.len(), &mut buffer)
 }
 
@@ -117,7 +103,7 @@ fn write_text(rt: &impl Print, text: &[u8]) -> io::Result<()> {
 }
 
 fn main(rt: HostRuntime) -> io::Result<()> {
-    let mut text = text_room();
+    let mut text = input::room::<TEXT_ROOM>();
     let n = input::read_full(&mut rt.stdin(), &mut text)?;
     write_text(&rt, &text[..n])
 }

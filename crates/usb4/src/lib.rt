@@ -124,34 +124,3 @@ impl From<TunnelType> for u32 {
         tunnel as u32
     }
 }
-
-// Each number as a function, for calls that are still to become `u32::from`.
-pub fn type_number(a: AdapterType) -> u32
-    ensures { result ≡ type_number a }
-{
-    u32::from(a)
-}
-
-pub fn state_number(s: State) -> u32
-    ensures { result ≡ state_number s }
-{
-    u32::from(s)
-}
-
-pub fn speed_number(s: Speed) -> u32
-    ensures { result ≡ speed_number s }
-{
-    u32::from(s)
-}
-
-pub fn kind_number(k: Kind) -> u32
-    ensures { result ≡ device_kind_number k }
-{
-    u32::from(k)
-}
-
-pub fn tunnel_number(t: TunnelType) -> u32
-    ensures { result ≡ tunnel_number t }
-{
-    u32::from(t)
-}

@@ -30,7 +30,7 @@ fn digit_bits(b: u8) -> u64
     0
 }
 
-// The value of a digit, hexadecimal in either case; 16 for any other byte. No test tells the kinds of digits apart, since it would be mispredicted at every other one.
+// The value of a digit, hexadecimal in either case; 16 for any other byte. Bits tell which bytes are digits; of tests there are only those of a byte's range in `digit_bits`, since one of a digit's kind would be mispredicted at every other digit.
 fn digit(b: u8) -> u64
     ensures { result ≡ digit_of b }
 {

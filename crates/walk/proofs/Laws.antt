@@ -12,7 +12,6 @@ use lib.ListN.{length}
 use borrow.Author.Tests.{eqb-true}
 use Rattle.refusal.specs.Outcome.{Outcome, refused, value, bind}
 use Rattle.tables.specs.Rows.{EntryRow, DeviceRow, Rows, entry_in}
-use Rattle.tables.specs.Packed.{entries_in}
 use Rattle.load.specs.Loading.{valid_entries}
 use Rattle.load.specs.Answers.{asked_device}
 use Rattle.fabric.specs.Fabric.{Way, Way.on, Way.last, Way.dropped, leads}

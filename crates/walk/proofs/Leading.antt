@@ -3,24 +3,26 @@ use Prim.Native.Nat.{ℕ, zero, suc, ◌<◌}
 use mathlib.Core.Path.{◌≡◌, refl, subst}
 use mathlib.Core.Bool.{Bool, true, false, cond, ◌&&◌}
 use mathlib.Core.List.{List, [], ◌∷◌}
-use Rattle.std.specs.Prelude.{Option, None, Some}
+use Rattle.std.specs.Prelude.{Option, None, Some, Result, Ok, Err}
 use Rattle.std.proofs.lemmas.Option.{none-some}
 use native.Mathlib.Omega.{arith}
 use lib.ListN.{length}
 use Rattle.refusal.specs.Outcome.{Outcome, refused, value, bind}
-use Rattle.refusal.specs.Refusal.{refusal_of}
+use Rattle.refusal.specs.Refusal.{refusal_of, field_at}
+use Rattle.refusal.specs.declared.FieldError.{FieldError}
 use Rattle.refusal.specs.declared.Site.{Site}
 use Rattle.refusal.specs.declared.Fault.TheVariants.{NoParentRoute, NoDownstreamRoute}
 use Rattle.route.specs.Route.{upstream_route, downstream_route}
 use Rattle.adapter.specs.Adapter.{AdapterRow, adapter_site, is_lane}
-use Rattle.tables.specs.Rows.{EntryRow, DeviceRow, Rows, adapter_in, device_in}
-use Rattle.tables.specs.Packed.{device_word, devices_from, upstream_by}
+use Rattle.tables.specs.Rows.{DeviceRow, Rows, adapter_in, device_in}
+use Rattle.tables.specs.Packed.{device_row, devices_from}
 use Rattle.load.specs.Answers.{present, asked_device}
 use Rattle.fabric.specs.Links.{is_upstream, route_or, upstream_route_of, downstream_route_of}
 use Rattle.fabric.specs.Fabric.{Way, Way.on, Way.last, Way.dropped, stand_by, stand_at, up_by, arrive_up, down_by, arrive_down, to_device, to_router, to_route, leads_from, leads_by, leads}
 use Rattle.fabric.proofs.Laws.{device_below}
 use Rattle.walk.specs.Rule.{walk_fault}
 use Rattle.tables.specs.declared.Tables.{Tables}
+use Rattle.tables.specs.declared.DeviceFacts.{DeviceFacts}
 use Rattle.tables.specs.Tables.{rows_of}
 
 -- a device stands at the place
@@ -142,23 +144,21 @@ module _ (x : Rows) where
 
 -- ---- on tables
 
-upstream_word : (s : Site) (n : ℕ) → Faulty (upstream_by s n)
-unfolding upstream_by refusal_of walk_fault
-upstream_word s zero = tt
-upstream_word s (suc zero) = refl
-upstream_word s (suc (suc n)) = tt
+upstream_read : (s : Site) (r : Result (Option ℕ) FieldError) → Faulty (field_at s r)
+unfolding refusal_of walk_fault
+upstream_read s (Ok a) = tt
+upstream_read s (Err e) = refl
 
-upstreams_from : (p : ℕ) (rs ms : List ℕ) (q : ℕ) (e : DeviceRow) → device_in (devices_from p rs ms) q ≡ Some e → Faulty e.upstream
-unfolding devices_from device_in device_word
-upstreams_from p [] ms q e h = absurd (none-some e h)
-upstreams_from p (r ∷ rs) [] q e h = absurd (none-some e h)
-upstreams_from p (r ∷ rs) (m ∷ ms) zero e h = let z : device_word p r m ≡ e = cc in subst (λ (d : DeviceRow). Faulty d.upstream) z (upstream_word _ _)
-upstreams_from p (r ∷ rs) (m ∷ ms) (suc q) e h = upstreams_from (suc p) rs ms q e h
+upstreams_from : (p : ℕ) (ds : List DeviceFacts) (q : ℕ) (e : DeviceRow) → device_in (devices_from p ds) q ≡ Some e → Faulty e.upstream
+unfolding devices_from device_in device_row
+upstreams_from p [] q e h = absurd (none-some e h)
+upstreams_from p (d ∷ ds) zero e h = let z : device_row p d ≡ e = cc in subst (λ (x : DeviceRow). Faulty x.upstream) z (upstream_read _ _)
+upstreams_from p (d ∷ ds) (suc q) e h = upstreams_from (suc p) ds q e h
 
 pub upstreams : (tables : Tables) → Upstreams (rows_of tables)
 unfolding rows_of
-upstreams tables = upstreams_from 0 tables.routes.now tables.marks.now
+upstreams tables = upstreams_from 0 tables.devices.now
 
-pub there_below : (tables : Tables) (q : ℕ) → There (rows_of tables) q → q < length tables.routes.now
+pub there_below : (tables : Tables) (q : ℕ) → There (rows_of tables) q → q < length tables.devices.now
 unfolding rows_of
-there_below tables q (d, e) = device_below tables.routes.now tables.marks.now q d e
+there_below tables q (d, e) = device_below tables.devices.now q d e

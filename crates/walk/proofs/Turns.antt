@@ -10,9 +10,9 @@ use borrow.Author.Tests.{lt-ltb}
 use lib.ListN.{length, length-append, length-map}
 use Rattle.refusal.specs.Outcome.{Outcome, refused, value, bind}
 use Rattle.refusal.specs.Refusal.{refusal_of, is_given, of_walk, refused_by}
-use Rattle.refusal.specs.declared.Fault.TheVariants.{FewRegisters, NoField, BadAdapters, GenTOffset, NoPathDump, NoOutAdapter, NoParentRoute, NoDownstreamRoute, Endless}
+use Rattle.refusal.specs.declared.Fault.TheVariants.{Endless}
 use Rattle.tables.specs.Rows.{EntryRow, Rows}
-use Rattle.tables.specs.Packed.{entry_word, entries_in}
+use Rattle.tables.specs.Packed.{entry_word}
 use Rattle.tables.specs.Found.{EntrySought, entry_found}
 use Rattle.load.specs.Loading.{valid_entries}
 use Rattle.refusal.specs.Refusal.{refused_by, is_given, of_walk, refusal_of}
@@ -89,12 +89,12 @@ record Hop (tables : Tables) (s : Stand) (n p a h out hop : ℕ) : Type 0 where
   found : (walk_on (rows_of tables)).hop (at p a h) ≡ Some (hop_row p a h out hop)
 
 in_order : {tables : Tables} → Tabled tables → InOrder tables
-in_order t = record { adapters = t.adapter_order; devices = omega (arith, t.devices) }
+in_order t = t.others
 
 module _ (tables : Tables) (s : Stand) where
   looked : {p a h : ℕ} {r : Option EntryOut} → Tabled tables → p < 65536 → EntrySought tables.entries.now p a h r → (walk_on (rows_of tables)).hop (at p a h) ≡ entry_found p a h r
   unfolding walk_on rows_of
-  looked t l q = sym (q.first l t.entry_order)
+  looked t l q = sym (q.first l t.entries)
 
   going_hop : {n p a h f o out hop : ℕ} {r : Option EntryOut} → Tabled tables → Going tables s n p a h f o → EntrySought tables.entries.now p a h r → r ≡ Some (entry_out out hop) → Hop tables s n p a h out hop
   unfolding entry_found
@@ -140,7 +140,7 @@ module _ (tables : Tables) (s : Stand) where
   unfolding next_outcome turn_by
   hop_on {n} {p} {a} {h} {out} {hop} {q} {b} t g l e = record {
     reached = reach_on (walk_on (rows_of tables)) s g.reached g.found (turn t g l (value (on q b)) (ap next_outcome e));
-    below = omega (arith, t.devices, there_below tables q (leads_there (rows_of tables) (upstreams tables) p out q b (sym (l.leads_to (in_order t)) ∙ ap next_outcome e)));
+    below = omega (arith, t.others.devices, there_below tables q (leads_there (rows_of tables) (upstreams tables) p out q b (sym (l.leads_to (in_order t)) ∙ ap next_outcome e)));
     leaving = leaving_next g;
   }
 
@@ -199,7 +199,7 @@ tallied tables s r answers past few one = record {
   walks = λ t d q.
       let x = rows_of tables in
       let g = sound tables s d q in
-      let a = answers t (omega (arith, t.devices, there_below tables s.place g.start)) in
+      let a = answers t (omega (arith, t.others.devices, there_below tables s.place g.start)) in
       rule x s no_need 0 _ _ g (hops_alone r ∙ ap (λ (o : Outcome (Option Leaving)). bind o hops_only) a ∙ hops_room x s (walk_from x s) refl)
       (λ hs n f p. a ∙ ap (λ (o : Outcome (Option (List EntryRow))). bind o (λ z. value (leaves z))) f);
 }

@@ -1,8 +1,7 @@
 -- The walk on tables: its number of hops, and by what it leaves. Assumes nothing.
-use Rattle.std.specs.Prelude.{ℕ, suc, ◌≤◌, ◌<◌, ◌≡◌, Bool, true, false, List, [], ◌∷◌, ltb, length, Option, None, Some, Ok, Err, Result}
+use Rattle.std.specs.Prelude.{ℕ, suc, ◌≤◌, ◌<◌, ◌≡◌, List, [], ◌∷◌, ltb, length, Option, None, Some, Ok, Err, Result}
 use Rattle.refusal.specs.Outcome.{Outcome, value, bind}
-use Rattle.tables.specs.Rows.{EntryRow, DeviceRow, Rows}
-use Rattle.tables.specs.Packed.{entries_in, entry_unit, adapter_unit, Sorted}
+use Rattle.tables.specs.Rows.{EntryRow, DeviceRow}
 use Rattle.tables.specs.Found.{EntrySought}
 use Rattle.load.specs.Answers.{asked_device}
 use Rattle.refusal.specs.Refusal.{refused_by, of_walk, is_given}

@@ -103,18 +103,18 @@ module _ (q : Result Tables Refusal) (o : Outcome Rows) (is : tables_rows q ≡ 
   rows_loaded = sym is ∙ ap tables_rows e
 
   -- 14
-  pub no_device : (p n : ℕ) → None ≡ device_in (devices_in t.routes.now t.marks.now) p → refused_by refusal.Missing ≡ bind o (λ x. asked_adapter x p n)
+  pub no_device : (p n : ℕ) → None ≡ device_in (devices_in t.devices.now) p → refused_by refusal.Missing ≡ bind o (λ x. asked_adapter x p n)
   unfolding asked_adapter asked_device present bind rows_of
   no_device p n f = ap (λ d. bind (present d) (λ z. present (adapter_in (rows_of t).adapters p n))) f ∙ sym (ap (λ w. bind w (λ x. asked_adapter x p n)) rows_loaded)
 
-  pub no_adapter : (p n : ℕ) (z : DeviceRow) → Some z ≡ device_in (devices_in t.routes.now t.marks.now) p → None ≡ adapter_in (adapters_in t.adapters.now) p n → refused_by refusal.Missing ≡ bind o (λ x. asked_adapter x p n)
+  pub no_adapter : (p n : ℕ) (z : DeviceRow) → Some z ≡ device_in (devices_in t.devices.now) p → None ≡ adapter_in (adapters_in t.adapters.now) p n → refused_by refusal.Missing ≡ bind o (λ x. asked_adapter x p n)
   unfolding asked_adapter asked_device present bind rows_of
   no_adapter p n z f h = ap present h ∙ ap (λ d. bind (present d) (λ w. present (adapter_in (rows_of t).adapters p n))) f ∙ sym (ap (λ w. bind w (λ x. asked_adapter x p n)) rows_loaded)
 
-pub asked_device_lem : (t : Tables) (p : ℕ) (z : DeviceRow) → Some z ≡ device_in (devices_in t.routes.now t.marks.now) p → asked_device (rows_of t) p ≡ value z
+pub asked_device_lem : (t : Tables) (p : ℕ) (z : DeviceRow) → Some z ≡ device_in (devices_in t.devices.now) p → asked_device (rows_of t) p ≡ value z
 unfolding asked_device present rows_of
 asked_device_lem t p z f = sym (ap present f)
 
-pub asked_adapter_lem : (t : Tables) (p n : ℕ) (z : DeviceRow) (y : AdapterRow) → Some z ≡ device_in (devices_in t.routes.now t.marks.now) p → Some y ≡ adapter_in (adapters_in t.adapters.now) p n → asked_adapter (rows_of t) p n ≡ value y
+pub asked_adapter_lem : (t : Tables) (p n : ℕ) (z : DeviceRow) (y : AdapterRow) → Some z ≡ device_in (devices_in t.devices.now) p → Some y ≡ adapter_in (adapters_in t.adapters.now) p n → asked_adapter (rows_of t) p n ≡ value y
 unfolding asked_adapter present rows_of bind
 asked_adapter_lem t p n z y f h = ap (λ (o : Outcome DeviceRow). bind o (λ w. present (adapter_in (adapters_in t.adapters.now) p n))) (asked_device_lem t p z f) ∙ sym (ap present h)

@@ -11,4 +11,4 @@ returns-in_err-facts c = let p = err_from_is_err_and c.from_residual.result c.fr
 
 pub returns : goal.returns
 unfolding adapter_answer
-returns c = laws.info_said c.args.place _ _ c.min_hop.ensures _ c.is_enabled.ensures ∙ laws.row_gone_on _ _ _ _ _ c.find_row.ensures _ _ c.in_ok-facts.was
+returns c = laws.info_said c.args.site.place _ _ c.min_hop.ensures _ c.is_enabled.ensures ∙ laws.row_gone_on _ _ _ _ _ c.find_row.ensures _ _ c.in_ok-facts.was

@@ -1,14 +1,13 @@
-use lib.Dec.{eqb}
-use native.Mathlib.Omega.{arith}
-use mathlib.Core.Path.{sym, ◌∙◌, ap}
+use mathlib.Core.Path.{◌∙◌}
+use Rattle.usb4.proofs.Laws as usb4
 use Rattle.adapters.proofs.Enabled as laws
 use Rattle.adapters.proofs.is_enabled.Goals as goal
 
-pub returns-then-code-eq3 : goal.returns-then-code-eq3
-returns-then-code-eq3 c = laws.enabled_host _ _ (sym c.type_number-code.ensures ∙ c.if-code-eq3.true)
+pub returns-in-HostInterface : goal.returns-in-HostInterface
+returns-in-HostInterface c = laws.enabled_host _ _ c.in-HostInterface.is
 
-pub returns-then-code-lt3 : goal.returns-then-code-lt3
-returns-then-code-lt3 c = laws.enabled_never _ _ (λ e. c.if-code-eq3.false (c.type_number-code.ensures ∙ e)) (omega (arith, c.type_number-code.ensures, c.if-code-lt3.true))
+pub returns-in-Unknown : goal.returns-in-Unknown
+returns-in-Unknown c = laws.enabled_never _ _ c.in-Unknown.is
 
-pub returns : goal.returns
-returns c = ap (λ n. eqb n 2) c.state_number.ensures ∙ laws.enabled_state _ _ (λ e. c.if-code-eq3.false (c.type_number-code.ensures ∙ e)) (omega (arith, c.type_number-code.ensures, c.if-code-lt3.false))
+pub returns-in_default : goal.returns-in_default
+returns-in_default c = let d = c.in_default in c.eq.ensures ∙ usb4.is_enabled _ ∙ laws.enabled_state _ _ d.not-HostInterface d.not-Unknown d.not-Inactive d.not-Lane

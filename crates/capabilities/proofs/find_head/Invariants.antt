@@ -4,7 +4,7 @@ use Rattle.capabilities.proofs.Heads as laws
 use Rattle.capabilities.proofs.find_head.Given as goal
 
 abbrev pub invariant-loop-i : goal.invariant-loop-i
-invariant-loop-i l = laws.Placing l.survey l.place l.number l.left l.i
+invariant-loop-i l = laws.Placing l.survey l.site.place l.site.adapter l.left l.i
 
 abbrev pub decreases-loop-i : goal.decreases-loop-i
 decreases-loop-i l = length l.survey - l.i

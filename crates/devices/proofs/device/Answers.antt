@@ -3,7 +3,7 @@ use mathlib.Core.Path.{ap, ◌∙◌}
 use Prim.Native.Nat.{ℕ}
 use Rattle.refusal.specs.Outcome.{Outcome, value}
 use Rattle.tables.specs.declared.DeviceFacts.{DeviceFacts}
-use Rattle.tables.specs.Found.{device_row}
+use Rattle.tables.specs.Packed.{device_row}
 use Rattle.devices.specs.Calls.{device_answer, info_of}
 use Rattle.devices.specs.declared.DeviceInfo.{DeviceInfo}
 use Rattle.devices.proofs.Laws.{read_refused, read_device_lem}

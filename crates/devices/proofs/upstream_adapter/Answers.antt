@@ -1,7 +1,7 @@
 use mathlib.Core.Path.{ap, sym, ◌∙◌}
 use Rattle.std.specs.Prelude.{Err}
 use Rattle.std.proofs.lemmas.Result.{err_from_is_err_and}
-use Rattle.tables.specs.Found.{device_row}
+use Rattle.tables.specs.Packed.{device_row}
 use Rattle.adapter.specs.Adapter.{adapter_site}
 use Rattle.refusal.specs.Refusal.{field_at}
 use Rattle.refusal.proofs.Laws.{no_field}

@@ -1,5 +1,3 @@
-use Prim.Native.Nat.{◌-◌}
-use lib.ListN.{length}
 use Rattle.discovery.proofs.Notes.{Unfound}
 use Rattle.discovery.proofs.find_note.Given as goal
 

@@ -1,6 +1,5 @@
-use Prim.Native.Nat.{◌-◌}
 use mathlib.Core.Path.{◌≡◌}
-use lib.ListN.{length, drop}
+use lib.ListN.{drop}
 use Rattle.discovery.specs.Work.{among, out_hops}
 use Rattle.discovery.proofs.leaves_by.Given as goal
 

@@ -1,8 +1,10 @@
 use Rattle.std.proofs.lemmas.Result.{err_from_is_err_and}
+use Rattle.adapter.specs.Adapter.{adapter_site}
 use Rattle.discovery.proofs.Answering.{told_host, told_disabled, told_enabled, told_unplanned}
 use Rattle.discovery.proofs.of_kind.Goals as goal
 
 pub returns-in-HostInterface : goal.returns-in-HostInterface
+unfolding adapter_site
 returns-in-HostInterface c = told_host _ _ _ _ _ _ c.in-HostInterface.is c.put_dma.ensures
 
 pub returns-in_default-state : goal.returns-in_default-state

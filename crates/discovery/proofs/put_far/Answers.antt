@@ -1,4 +1,3 @@
-use native.Mathlib.Omega.{arith}
 use Rattle.discovery.proofs.Notes.{told_known}
 use Rattle.discovery.proofs.put_far.Goals as goal
 

@@ -1,5 +1,3 @@
-use mathlib.Core.Path.{sym}
-use lib.Seq.{length-take-le}
 use Rattle.std.proofs.lemmas.Result.{err_from_is_err_and}
 use Rattle.discovery.proofs.Answering.{list_refused, list_short, list_put}
 use Rattle.discovery.proofs.put_noted.Goals as goal

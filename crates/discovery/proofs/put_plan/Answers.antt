@@ -1,5 +1,4 @@
-use Rattle.std.specs.Prelude.{Ok}
-use mathlib.Core.Path.{◌∙◌, ap}
+use mathlib.Core.Path.{◌∙◌}
 use native.Mathlib.Omega.{arith}
 use lib.ListN.{length-set}
 use Rattle.discovery.proofs.Writing.{plan_none, plan_full, one_long, two_long, plan_put_0, plan_put_1, plan_put_2, plan_put_3}

@@ -1,4 +1,3 @@
-use native.Mathlib.Omega.{arith}
 use Rattle.discovery.proofs.Rings.{not_ok, ring_idle, ring_put, ring_unput}
 use Rattle.discovery.proofs.put_ring.Goals as goal
 

@@ -1,6 +1,5 @@
-use Prim.Native.Nat.{◌-◌}
 use Rattle.discovery.proofs.Rings.{Putting}
 use Rattle.discovery.proofs.put_rings.Given as goal
 
 abbrev pub invariant-loop-ring : goal.invariant-loop-ring
-invariant-loop-ring l = Putting l.rings.tables l.rings.place l.rings.adapter l.end l.initial.output l.at l.ring l.output
+invariant-loop-ring l = Putting l.rings.tables l.rings.site.place l.rings.site.adapter l.end l.initial.output l.at l.ring l.output

@@ -3,4 +3,4 @@ use Rattle.answers.specs.Said.{said, perhaps, one}
 use Rattle.export.proofs.tunnels_describe.Goals as goal
 
 pub returns : goal.returns
-returns c = c.described-a.ensures ∙ ap (λ o. said (perhaps one o)) c.describe.ensures
+returns c = c.perhaps-a.ensures ∙ ap (λ o. said (perhaps one o)) c.describe.ensures

@@ -3,4 +3,4 @@ use Rattle.answers.specs.Said.{said, perhaps, one}
 use Rattle.export.proofs.tunnels_max_hop.Goals as goal
 
 pub returns : goal.returns
-returns c = c.max_hop-a.ensures ∙ ap (λ o. said (perhaps one o)) c.max_hop.ensures
+returns c = c.perhaps-a.ensures ∙ ap (λ o. said (perhaps one o)) c.max_hop.ensures

@@ -3,4 +3,4 @@ use Rattle.answers.specs.Said.{said, perhaps, one}
 use Rattle.export.proofs.tunnels_parent.Goals as goal
 
 pub returns : goal.returns
-returns c = c.parent-a.ensures ∙ ap (λ o. said (perhaps one o)) c.parent_from.ensures
+returns c = c.perhaps-a.ensures ∙ ap (λ o. said (perhaps one o)) c.parent_from.ensures

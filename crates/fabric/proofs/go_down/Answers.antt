@@ -3,7 +3,8 @@ use Rattle.refusal.proofs.Laws.{no_field}
 use Rattle.refusal.specs.Outcome.{bind, value}
 use Rattle.refusal.specs.Refusal.{refusal_of, field_at}
 use Rattle.adapter.specs.Adapter.{adapter_site}
-use Rattle.tables.specs.Found.{device_row, device_found}
+use Rattle.tables.specs.Found.{device_found}
+use Rattle.tables.specs.Packed.{device_row}
 use Rattle.fabric.proofs.Laws.{router_fits, to_none, to_device_lem, went_down}
 use mathlib.Core.Path.{sym, ap, ◌∙◌}
 use Rattle.fabric.specs.Fabric.{stand_at, down_by, to_device}

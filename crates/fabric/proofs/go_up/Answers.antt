@@ -1,7 +1,8 @@
 use Rattle.refusal.specs.Outcome.{value}
 use Rattle.fabric.proofs.Laws.{router_fits, to_none, to_device_lem, went_up}
 use mathlib.Core.Path.{sym, ap, ◌∙◌}
-use Rattle.tables.specs.Found.{device_row, device_found}
+use Rattle.tables.specs.Found.{device_found}
+use Rattle.tables.specs.Packed.{device_row}
 use Rattle.fabric.specs.Fabric.{stand_at, up_by, to_device}
 use Rattle.fabric.specs.Tables.{next_outcome}
 use Rattle.fabric.proofs.go_up.Goals as goal

@@ -5,7 +5,7 @@ use Rattle.refusal.specs.Refusal.{refusal_of}
 use Rattle.refusal.proofs.Laws.{missing, there}
 use Rattle.adapter.specs.Adapter.{adapter_site}
 use Rattle.fabric.specs.Links.{route_or}
-use Rattle.tables.specs.Found.{device_row}
+use Rattle.tables.specs.Packed.{device_row}
 use Rattle.fabric.specs.Tables.{next_outcome}
 use Rattle.fabric.proofs.Laws.{lane_up, lane_down}
 use Rattle.fabric.proofs.lane_leads.Goals as goal

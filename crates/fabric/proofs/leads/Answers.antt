@@ -1,7 +1,8 @@
 use Rattle.std.specs.Prelude.{Some}
 use mathlib.Core.Path.{sym, ap, ◌∙◌}
 use Rattle.adapter.specs.Adapter.{adapter_site}
-use Rattle.tables.specs.Found.{device_found, device_row}
+use Rattle.tables.specs.Found.{device_found}
+use Rattle.tables.specs.Packed.{device_row}
 use Rattle.fabric.specs.Tables.{next_outcome}
 use Rattle.fabric.proofs.Laws.{leads_missing, leads_nowhere, leads_other, leads_lane}
 use Rattle.fabric.proofs.leads.Goals as goal

@@ -1,8 +1,7 @@
 use mathlib.Core.Path.{sym, ◌∙◌}
 use Rattle.std.proofs.lemmas.Result.{err_from_is_err_and}
-use Rattle.refusal.specs.Refusal.{fault_outcome}
 use Rattle.refusal.proofs.Laws.{missing, there}
-use Rattle.tables.specs.Found.{device_row}
+use Rattle.tables.specs.Packed.{device_row}
 use Rattle.adapter.specs.Adapter.{facts_row, adapter_site}
 use Rattle.fabric.specs.Links.{route_or}
 use Rattle.fabric.proofs.Laws.{lane_kind, no_lane_kind, down_no_lane, down_route}

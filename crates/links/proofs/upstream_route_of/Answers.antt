@@ -3,7 +3,7 @@ use Rattle.std.specs.Prelude.{Ok, Err}
 use Rattle.std.proofs.lemmas.Result.{err_from_is_err_and}
 use Rattle.refusal.proofs.Laws.{missing, there, no_field}
 use borrow.Author.Tests.{eq-eqb, ne_eqb}
-use Rattle.tables.specs.Found.{device_row}
+use Rattle.tables.specs.Packed.{device_row}
 use Rattle.adapter.specs.Adapter.{facts_row, adapter_site}
 use Rattle.fabric.specs.Links.{route_or}
 use Rattle.fabric.proofs.Laws.{lane_kind, no_lane_kind, up_no_lane, up_other, up_route}

@@ -1,8 +1,11 @@
-use Rattle.load.proofs.Counting.{counted}
-use native.Mathlib.Omega.{arith}
+use Rattle.std.proofs.lemmas.Result.{err_from_is_err_and}
+use Rattle.load.proofs.Result.{counts_refused, counts_answered}
 use mathlib.Core.Path.{◌∙◌}
 use Rattle.load.proofs.accept.Goals as goal
 
+pub returns-in_err-loaded : goal.returns-in_err-loaded
+returns-in_err-loaded c = let p = err_from_is_err_and c.from_residual.result c.from_residual.ensures.1 in
+    rw (p.1, p.2) (counts_refused _ _ _ (c.loaded.view_is ∙ c.load-loaded.ensures) _ c.in_err-loaded.was)
+
 pub returns : goal.returns
-returns c = let l = c.result in let t = l.inside in let n = l.ranges in
-    counted t.entries t.adapters t.routes t.marks (omega (arith, n)) (omega (arith, n)) (omega (arith, n)) (omega (arith, n)) _ _ (l.view_is ∙ c.load.ensures) l.invariant
+returns c = counts_answered _ _ _ (c.loaded.view_is ∙ c.load-loaded.ensures) _ c.in_ok-loaded.was _ c.counts.ensures

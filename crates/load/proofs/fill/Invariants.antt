@@ -4,11 +4,10 @@ use Rattle.survey.specs.Devices.{devices_of}
 use Rattle.layout.specs.Description.{descriptions_of}
 use lib.ListN.{length}
 use Prim.Native.Nat.{◌-◌}
-use mathlib.Core.Path.{◌≡◌}
 use Rattle.load.proofs.fill.Given as goal
 
 abbrev pub invariant-loop-i : goal.invariant-loop-i
-invariant-loop-i l = (length l.entries ≡ length l.initial.entries) × (length l.adapters ≡ length l.initial.adapters) × (length l.routes ≡ length l.initial.routes) × (length l.marks ≡ length l.initial.marks) × Filling (descriptions_of l.descriptions) l.survey (load_from (descriptions_of l.descriptions) 0 (devices_of l.survey)) l.entries l.adapters l.routes l.marks l.n l.m l.place l.i
+invariant-loop-i l = Filling (descriptions_of l.descriptions) l.survey (load_from (descriptions_of l.descriptions) 0 (devices_of l.survey)) l.rows l.i
 
 abbrev pub decreases-loop-i : goal.decreases-loop-i
 decreases-loop-i l = length l.survey - l.i

@@ -1,6 +1,6 @@
 use Rattle.parents.proofs.Laws.{of_router, of_xdomain, of_other}
 use mathlib.Core.Path.{◌∙◌}
-use Rattle.tables.specs.Found.{device_row}
+use Rattle.tables.specs.Packed.{device_row}
 use Rattle.parents.proofs.parent_of.Goals as goal
 
 pub returns-in-Router : goal.returns-in-Router

@@ -1,7 +1,8 @@
 use Rattle.std.specs.Prelude.{None, Ok, Err}
 use Rattle.std.proofs.lemmas.Result.{err_from_is_err_and}
 use mathlib.Core.Path.{ap, sym, ◌∙◌}
-use Rattle.tables.specs.Found.{device_row, adapter_found}
+use Rattle.tables.specs.Found.{adapter_found}
+use Rattle.tables.specs.Packed.{device_row}
 use Rattle.refusal.specs.Refusal.{refusal_of, fault_outcome}
 use Rattle.refusal.specs.Outcome.{value, bind}
 use Rattle.adapter.specs.Adapter.{adapter_site}

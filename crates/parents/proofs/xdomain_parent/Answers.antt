@@ -1,7 +1,7 @@
 use mathlib.Core.Path.{sym, ap, ◌∙◌}
 use Rattle.std.proofs.lemmas.Result.{err_from_is_err_and}
 use Rattle.refusal.proofs.Laws.{missing, there}
-use Rattle.tables.specs.Found.{device_row}
+use Rattle.tables.specs.Packed.{device_row}
 use Rattle.refusal.specs.Refusal.{refusal_of}
 use Rattle.refusal.specs.Outcome.{value, bind}
 use Rattle.adapter.specs.Adapter.{adapter_site}

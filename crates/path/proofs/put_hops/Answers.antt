@@ -1,8 +1,7 @@
 use Rattle.refusal.proofs.Laws.{ok_same, err_no_ok}
-use mathlib.Core.Path.{sym, ◌≡◌}
-use Prim.Native.Nat.{ℕ}
+use mathlib.Core.Path.{sym}
 use Rattle.std.specs.Prelude.{Ok}
-use Prim.Native.Nat.{◌+◌, ◌*◌, ◌-◌}
+use Prim.Native.Nat.{◌+◌, ◌*◌}
 use mathlib.Core.Path.{refl, ap, ◌∙◌, subst}
 use Rattle.path.specs.Work.{HopsPut}
 use native.Mathlib.Omega.{arith}

@@ -1,5 +1,6 @@
 use mathlib.Core.Path.{sym, ap, ◌∙◌}
-use Rattle.tables.specs.Found.{adapter_found, device_found, device_row}
+use Rattle.tables.specs.Found.{adapter_found, device_found}
+use Rattle.tables.specs.Packed.{device_row}
 use Rattle.fabric.proofs.Laws.{device_fits}
 use Rattle.receive.specs.Receive.{or_dropped, beneath as below}
 use Rattle.receive.specs.Work.{lane_outcome}

@@ -1,7 +1,8 @@
 use Rattle.std.specs.Prelude.{Ok}
 use Rattle.std.proofs.lemmas.Result.{err_from_is_err_and}
 use mathlib.Core.Path.{sym, ap, ◌∙◌}
-use Rattle.tables.specs.Found.{device_found, device_row}
+use Rattle.tables.specs.Found.{device_found}
+use Rattle.tables.specs.Packed.{device_row}
 use Rattle.fabric.proofs.Laws.{device_fits}
 use Rattle.receive.specs.Work.{lane_outcome}
 use Rattle.receive.proofs.Lanes.{lane_nowhere, lane_left, lane_refused, lane_alone, lane_under}

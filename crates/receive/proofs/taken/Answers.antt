@@ -1,7 +1,7 @@
 use lib.Dec.{eqb}
 use mathlib.Core.Path.{sym, ap}
 use Rattle.parents.specs.Parents.{is_xdomain}
-use Rattle.tables.specs.Found.{device_row}
+use Rattle.tables.specs.Packed.{device_row}
 use Rattle.usb4.specs.Numbers.{device_kind_number}
 use Rattle.receive.specs.Receive.{taken}
 use Rattle.receive.proofs.Lanes.{no_xdomain}

@@ -4,4 +4,4 @@ use Rattle.routing.proofs.downstream_route.Goals as goal
 
 pub returns : goal.returns
 unfolding downstream_route_answer
-returns c = c.ask.ensures (downstream_route_of c.args.place) (λ d a r h. h.2)
+returns c = c.ask.ensures (downstream_route_of c.args.site.place) (λ d a r h. h.2)

@@ -3,7 +3,6 @@ use Rattle.std.specs.Prelude.{Err}
 use Rattle.util.specs.Text.{bytes_of}
 use borrow.Author.Tests.{not-true, not-false}
 use mathlib.Core.Path.{sym, ◌∙◌, ap}
-use native.Mathlib.Omega.{arith}
 use Rattle.usb4.proofs.Laws.{no_lane, a_lane}
 use Rattle.state.proofs.Laws as laws
 use mathlib.Core.Bool.{not}
@@ -17,18 +16,15 @@ returns-then-not-has_speed c = λ s. laws.speed_state _ _ _ _ s (a_lane _ _ c.ne
 
 pub returns-in_default : goal.returns-in_default
 unfolding bytes_of
-returns-in_default c = λ s. laws.speed_nowhere _ _ _ _ c.of_adapter.ensures.answer s c.in_default.is
+returns-in_default c = λ s. laws.speed_nowhere _ _ _ _ c.named.ensures.answer s c.in_default.is
     ∙ laws.speed_register _ _ _ _ s (a_lane _ _ c.ne.ensures c.if-ne.false) (sym c.has_speed.ensures ∙ not-false _ (ap (λ b. not b) c.if-not-has_speed.false))
 
-pub overflow_add-register : goal.overflow_add-register
-overflow_add-register c = omega (arith, laws.found_within _ _ _ _ c.of_adapter.ensures.within c.in-Some.is)
-
-pub returns-in_default-field_value : goal.returns-in_default-field_value
+pub returns-in_default-field : goal.returns-in_default-field
 unfolding bytes_of
-returns-in_default-field_value c = λ s. laws.speed_lacks _ _ _ _ c.of_adapter.ensures.answer _ _ c.in-Some.is _ c.word_at-value.ensures s _ c.field_value.ensures (c.in_default-field_value.is ∙ ap Err (no_field _))
+returns-in_default-field c = λ s. laws.speed_lacks _ _ _ _ c.named.ensures.answer _ c.in-Some.is s _ c.field.ensures (c.in_default-field.is ∙ ap Err (no_field _))
     ∙ laws.speed_register _ _ _ _ s (a_lane _ _ c.ne.ensures c.if-ne.false) (sym c.has_speed.ensures ∙ not-false _ (ap (λ b. not b) c.if-not-has_speed.false))
 
 pub returns : goal.returns
 unfolding bytes_of
-returns c = λ s. laws.speed_has _ _ _ _ c.of_adapter.ensures.answer _ _ c.in-Some.is _ c.word_at-value.ensures s _ c.field_value.ensures _ c.in-Ok.is _ c.speed_of.ensures
+returns c = λ s. laws.speed_has _ _ _ _ c.named.ensures.answer _ c.in-Some.is s _ c.field.ensures _ c.in-Ok.is _ c.speed_of.ensures
     ∙ laws.speed_register _ _ _ _ s (a_lane _ _ c.ne.ensures c.if-ne.false) (sym c.has_speed.ensures ∙ not-false _ (ap (λ b. not b) c.if-not-has_speed.false))

@@ -2,21 +2,17 @@ use Rattle.refusal.proofs.Laws.{no_field}
 use Rattle.std.specs.Prelude.{Err}
 use Rattle.util.specs.Text.{bytes_of}
 use mathlib.Core.Path.{◌∙◌, ap}
-use native.Mathlib.Omega.{arith}
 use Rattle.state.proofs.Laws as laws
 use Rattle.state.proofs.lane_state.Goals as goal
 
 pub returns-in_default : goal.returns-in_default
 unfolding bytes_of
-returns-in_default c = c.untold.ensures ∙ laws.lane_nowhere _ _ _ _ c.of_adapter.ensures.answer _ c.in_default.is
+returns-in_default c = c.untold.ensures ∙ laws.lane_nowhere _ _ _ _ c.named.ensures.answer _ c.in_default.is
 
-pub overflow_add-register : goal.overflow_add-register
-overflow_add-register c = omega (arith, laws.found_within _ _ _ _ c.of_adapter.ensures.within c.in-Some.is)
-
-pub returns-in_default-field_value : goal.returns-in_default-field_value
+pub returns-in_default-field : goal.returns-in_default-field
 unfolding bytes_of
-returns-in_default-field_value c = laws.lane_lacks _ _ _ _ c.of_adapter.ensures.answer _ _ c.in-Some.is _ c.word_at-value.ensures _ _ c.field_value.ensures (c.in_default-field_value.is ∙ ap Err (no_field _))
+returns-in_default-field c = laws.lane_lacks _ _ _ _ c.named.ensures.answer _ c.in-Some.is _ _ c.field.ensures (c.in_default-field.is ∙ ap Err (no_field _))
 
 pub returns : goal.returns
 unfolding bytes_of
-returns c = laws.lane_has _ _ _ _ c.of_adapter.ensures.answer _ _ c.in-Some.is _ c.word_at-value.ensures _ _ c.field_value.ensures _ c.in-Ok.is _ c.lane_state.ensures
+returns c = laws.lane_has _ _ _ _ c.named.ensures.answer _ c.in-Some.is _ _ c.field.ensures _ c.in-Ok.is _ c.lane_state.ensures

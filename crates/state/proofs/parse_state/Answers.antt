@@ -1,4 +1,4 @@
-use Rattle.state.specs.State.{state_of, of_kind}
+use Rattle.state.specs.State.{state_of}
 use mathlib.Core.Path.{◌∙◌, refl}
 use Rattle.state.proofs.Laws as laws
 use Rattle.state.proofs.parse_state.Goals as goal
@@ -7,8 +7,7 @@ pub returns-in-Unknown : goal.returns-in-Unknown
 returns-in-Unknown c = laws.no_state _ _ _ _ c.in-Unknown.is
 
 pub returns-in-Lane : goal.returns-in-Lane
-unfolding state_of of_kind
-returns-in-Lane c = laws.state_is _ _ _ _ _ c.in-Lane.is _ c.lane_state.ensures
+returns-in-Lane c = c.lane_state.ensures ∙ laws.a_lane_state _ _ _ _ c.in-Lane.is
 
 pub returns-in-HostInterface : goal.returns-in-HostInterface
 unfolding state_of

@@ -21,14 +21,14 @@ unfolding device_found adapter_found
 returns-in_default-find_adapter c =
     let f = sym (ap (device_found _) c.in-Some.is) ∙ c.find_device.ensures in
     let t = tables_fit _ _ c.in_ok-tables.was c.tables.ensures.fits in
-    let w : c.args.stand.place < 65536 = omega (arith, device_below _ _ _ _ (sym f), t.1.devices) in
-    laws.turned_away _ _ _ _ _ (laws.no_adapter _ _ (c.tables.ensures.rows ∙ c.load-loaded.ensures) _ c.in_ok-tables.was _ _ _ f (sym (ap (adapter_found _) c.in_default-find_adapter.is) ∙ c.find_adapter.ensures.first w t.1.adapter_order))
+    let w : c.args.stand.place < 65536 = omega (arith, device_below _ _ _ (sym f), t.1.others.devices) in
+    laws.turned_away _ _ _ _ _ (laws.no_adapter _ _ (c.tables.ensures.rows ∙ c.load-loaded.ensures) _ c.in_ok-tables.was _ _ _ f (sym (ap (adapter_found _) c.in_default-find_adapter.is) ∙ c.find_adapter.ensures.first w t.1.others.adapters))
 
 pub returns : goal.returns
 unfolding device_found adapter_found
 returns c =
     let f = sym (ap (device_found _) c.in-Some.is) ∙ c.find_device.ensures in
     let t = tables_fit _ _ c.in_ok-tables.was c.tables.ensures.fits in
-    let w : c.args.stand.place < 65536 = omega (arith, device_below _ _ _ _ (sym f), t.1.devices) in
-    let h = sym (ap (adapter_found _) c.in-Some-find_adapter.is) ∙ c.find_adapter.ensures.first w t.1.adapter_order in
+    let w : c.args.stand.place < 65536 = omega (arith, device_below _ _ _ (sym f), t.1.others.devices) in
+    let h = sym (ap (adapter_found _) c.in-Some-find_adapter.is) ∙ c.find_adapter.ensures.first w t.1.others.adapters in
     laws.put_done _ _ _ _ _ _ _ (laws.rows_loaded _ _ (c.tables.ensures.rows ∙ c.load-loaded.ensures) _ c.in_ok-tables.was) (laws.asked_device_lem _ _ _ f) (laws.asked_adapter_lem _ _ _ _ _ f h) t.0.sized t.1 w _ _ c.put_path.ensures

@@ -4,7 +4,6 @@ use Rattle.std.proofs.lemmas.List.{set-get_or}
 use native.Mathlib.Nat.{lt_of_le_of_lt}
 use lib.Dec.{lit<}
 use Rattle.util.proofs.Laws.{hex_le}
-use Rattle.util.specs.Number.{hex_number}
 use Rattle.cases.proofs.Laws.{words_first, words_turn, words_bad, words_all, words_more}
 use Rattle.cases.proofs.line.words.Goals as goal
 

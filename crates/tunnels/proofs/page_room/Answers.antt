@@ -1,7 +1,0 @@
-use Rattle.std.proofs.Common.{ℕ, sym}
-use lib.ListN.{length-replicate}
-use Rattle.tunnels.proofs.page_room.Goals as goal
-
--- A list of so many zeros has that length: by the law, since counting it is too deep.
-pub returns : goal.returns
-returns c = sym (length-replicate {0} {A = ℕ} 786432 0)
