@@ -17,7 +17,6 @@ use Rattle.tables.specs.declared.Stand.{Stand}
 use Rattle.walk.specs.Rule.{WalkRule}
 use Rattle.path.specs.Words.{words_needed, with_path}
 use Rattle.walks.specs.Calls.{single, path_answer, walk_answer, WalkDone}
-use Rattle.discovery.specs.Answers as tunnels
 use Rattle.discoveries.specs.Calls.{DiscoverDone}
 use Rattle.answers.specs.Said.{answered, padded, said, always, words_in, perhaps, one}
 use Rattle.replies.specs.Replies.{hop_count_words}
