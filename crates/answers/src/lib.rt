@@ -1,69 +1,31 @@
 // What the exported calls answer, in eight words: a refusal, a number, and the calls on hex numbers and lines.
 #![tactic(auto)]
 
-ghost use Rattle.std.specs.Prelude.{◌≡◌, ℕ, [], ◌∷◌};
+ghost use Rattle.std.specs.Prelude.{◌≡◌, ℕ};
 ghost use Rattle.usb4.specs.Numbers.{speed_number};
-ghost use Rattle.refusal.specs.Outcome.{refused as refused_with, value};
-ghost use Rattle.refusal.specs.Refusal.{at, refusal_of, refused_by, outcome};
+ghost use Rattle.refusal.specs.Outcome.{value};
+ghost use Rattle.refusal.specs.Refusal.{refused_by, outcome};
 ghost use Rattle.answers.specs.Said.{said, always, perhaps, one, register_words, hex_of_bits};
 
-use refusal::{Fault, Refusal, Site};
+use refusal::Refusal;
 use register::Register;
 use usb4::Speed;
 
-// Of a refusal by its number and one value.
-fn valued(number: u64, value: usize) -> [u64; 8]
-    ensures { result ≡ said (refused_with number (value ∷ [])) }
+// A refusal's number and values.
+pub fn refused(refusal: Refusal) -> [u64; 8]
+    ensures { result ≡ said (refused_by refusal) }
 {
-    [number, value as u64, 0, 0, 0, 0, 0, 0]
-}
-
-// Of a fault by its number, with device place and adapter number.
-fn sited(number: u64, site: Site) -> [u64; 8]
-    ensures { result ≡ said (refused_with number (at site)) }
-{
+    let n = refusals::numbers_of(refusal);
     [
-        number,
-        site.place as u64,
-        site.adapter as u64,
+        u64::from(n.number),
+        n.first as u64,
+        n.second as u64,
         0,
         0,
         0,
         0,
         0,
     ]
-}
-
-// Of a fault: its number and values.
-fn faulted(fault: Fault) -> [u64; 8]
-    ensures { result ≡ said (refusal_of fault) }
-{
-    match fault {
-        Fault::FewRegisters(site) => sited(5, site),
-        Fault::NoField(site) => sited(6, site),
-        Fault::BadAdapters(place) => [7, place as u64, 0, 0, 0, 0, 0, 0],
-        Fault::GenTOffset(site) => sited(8, site),
-        Fault::NoPathDump(site) => sited(9, site),
-        Fault::NoOutAdapter(site) => sited(10, site),
-        Fault::NoParentRoute(site) => sited(11, site),
-        Fault::NoDownstreamRoute(site) => sited(12, site),
-        Fault::Endless => [13, 0, 0, 0, 0, 0, 0, 0],
-    }
-}
-
-// A refusal's number and values.
-pub fn refused(refusal: Refusal) -> [u64; 8]
-    ensures { result ≡ said (refused_by refusal) }
-{
-    match refusal {
-        Refusal::NotAscii(place) => valued(1, place),
-        Refusal::Short(need) => valued(2, need),
-        Refusal::Descriptions(place) => valued(3, place),
-        Refusal::Survey(place) => valued(4, place),
-        Refusal::NoField => [6, 0, 0, 0, 0, 0, 0, 0],
-        Refusal::Fault(fault) => faulted(fault),
-        Refusal::Missing => [14, 0, 0, 0, 0, 0, 0, 0],
-    }
 }
 
 // A result of one number.

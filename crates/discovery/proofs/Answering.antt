@@ -35,7 +35,7 @@ use Rattle.refusal.specs.declared.Refusal.TheVariants as refusal
 use Rattle.refusal.specs.declared.WalkError.TheVariants as walk
 use Rattle.tunnel.specs.Tunnels.{Tunnel, down_and_up, display_port, rings, or_none, dma, alone, of_kind, discover}
 use Rattle.tunnel.specs.Words.{tunnels_words}
-use Rattle.tunnel.specs.Plans.{plan_if, planned_as, planned_outcome, words_by, paths_by, Plans}
+use Rattle.tunnel.specs.Plans.{plan_if, planned_as, planned_outcome, words_by, Plans}
 use Rattle.tunnel.specs.declared.Plan.{Plan as Planned}
 use Rattle.discovery.specs.Answers.{discover_at, in_room, output_by}
 use Rattle.discovery.specs.Tables.{Discovered}
@@ -137,7 +137,7 @@ module _ (tables : Tables) (plan : Option Planned) (out : List ℕ) where
         go (None, q, n, g) = absurd (some-planned g)
         go (Some t, q, n, g) = (t, q, ap (λ y. bind y alone) q, n, g)
 
-  module _ (k : _) (c : Bool) (w n : ℕ) (a b d : _) (e : plan ≡ Some (planned_as k c w n a b d)) where
+  module _ (k : _) (c : Bool) (w : ℕ) (l : _) (e : plan ≡ Some (planned_as k c w l)) where
     tunnel_planned : planned_outcome (Ok plan) ≡ value None → ⊥
     unfolding planned_outcome
     tunnel_planned f = let z = sym (ap (λ q. planned_outcome (Ok q)) e) ∙ f in let y : ◌≡◌ {A = ℕ} 0 1 = cc in omega arith
@@ -148,22 +148,22 @@ module _ (tables : Tables) (plan : Option Planned) (out : List ℕ) where
 
     pub one_short : length out < w → OneAnswered tables plan out (Err (refusal.Short w)) out
     unfolding is_given
-    one_short l = record {
-      follows = λ z t o f q. let y = one_planned w tunnel_words_lem tunnel_planned o f in follows_short (bind o alone) out (y.0 ∷ []) w y.2 y.3 l;
+    one_short i = record {
+      follows = λ z t o f q. let y = one_planned w tunnel_words_lem tunnel_planned o f in follows_short (bind o alone) out (y.0 ∷ []) w y.2 y.3 i;
       free = free_kept out _ refl (short_met w);
     }
 
-    pub one_put : (S : List ℕ) (r : ℕ) → w ≤ length out → length S ≡ length (take w out) → PlanPut tables (Some (planned_as k c w n a b d)) 0 (take w out) r S → OneAnswered tables plan out (Ok (Some w)) (S ++ drop w out)
-    one_put S r l m p = record {
-      follows = λ z t o f q. let y = one_planned w tunnel_words_lem tunnel_planned o f in follows_words (bind o alone) out (y.0 ∷ []) w y.2 y.3 l S (whole z t y.0 y.3 y.4 (q (Some y.0) y.1));
-      free = free_words out S w l m;
+    pub one_put : (S : List ℕ) (r : ℕ) → w ≤ length out → length S ≡ length (take w out) → PlanPut tables (Some (planned_as k c w l)) 0 (take w out) r S → OneAnswered tables plan out (Ok (Some w)) (S ++ drop w out)
+    one_put S r i m p = record {
+      follows = λ z t o f q. let y = one_planned w tunnel_words_lem tunnel_planned o f in follows_words (bind o alone) out (y.0 ∷ []) w y.2 y.3 i S (whole z t y.0 y.3 y.4 (q (Some y.0) y.1));
+      free = free_words out S w i m;
     }
       where
         whole : Sized tables → Tabled tables → (t : Tunnel) → w ≡ length (tunnels_words (t ∷ [])) → planned_outcome (Ok plan) ≡ value (plan_if (Some t)) → Walks (rows_of tables) (Some t) → S ≡ tunnels_words (t ∷ [])
-        whole z g t j f q = all (p.words z g (Some t) (sym (ap (λ q. planned_outcome (Ok q)) e) ∙ f) q (omega (arith, j, length-take-le w out l)))
+        whole z g t j f q = all (p.words z g (Some t) (sym (ap (λ q. planned_outcome (Ok q)) e) ∙ f) q (omega (arith, j, length-take-le w out i)))
           where
             all : Wrote 0 (tunnels_words (t ∷ [])) (take w out) r S → S ≡ tunnels_words (t ∷ [])
-            all v = v.whole ∙ ap (λ y. tunnels_words (t ∷ []) ++ y) (drop_of_length-le (take w out) {i = r} (omega (arith, j, v.next, length-take-le w out l))) ∙ append-nil (tunnels_words (t ∷ []))
+            all v = v.whole ∙ ap (λ y. tunnels_words (t ∷ []) ++ y) (drop_of_length-le (take w out) {i = r} (omega (arith, j, v.next, length-take-le w out i))) ∙ append-nil (tunnels_words (t ∷ []))
 
 -- ---- the rings of a host interface
 
@@ -290,7 +290,7 @@ tunnel_walks x p a n t e = go (eqb n 4) (eqb n 6) (eqb n 8) t e
 -- a plan by a kind
 module _ (tables : Tables) (p a : ℕ) (k : AdapterType) where
   plans_as : (f : Rows → Outcome (Option Tunnel)) (r : Result (Option Planned) WalkError) → ((x : Rows) → tunnel_by x p a (type_number k) ≡ f x) → Plans tables p f r → Plans tables p (λ x. tunnel_by x p a (type_number k)) r
-  plans_as f r e g = record { answers = λ z t l. g.answers z t l ∙ ap (λ o. bind o (λ t. value (plan_if t))) (sym (e (rows_of tables))); few = g.few; three = g.three }
+  plans_as f r e g = record { answers = λ z t l. g.answers z t l ∙ ap (λ o. bind o (λ t. value (plan_if t))) (sym (e (rows_of tables))); few = g.few }
 
   pub plan_display_port : k ≡ type.DisplayPortIn → (r : Result (Option Planned) WalkError) → Plans tables p (λ x. display_port x p a) r → Plans tables p (λ x. tunnel_by x p a (type_number k)) r
   unfolding tunnel_by
@@ -320,8 +320,8 @@ none_by x p a type.Usb3GenTDown i j l = refl
 none_by x p a type.Usb3GenTUp i j l = refl
 
 pub plan_other : (tables : Tables) (p a : ℕ) (k : AdapterType) → (k ≡ type.DisplayPortIn → ⊥) → (k ≡ type.PcieDown → ⊥) → (k ≡ type.Usb3Down → ⊥) → Plans tables p (λ x. tunnel_by x p a (type_number k)) (Ok None)
-unfolding planned_outcome words_by paths_by plan_if bind
-plan_other tables p a k i j l = record { answers = λ z t n. sym (ap (λ o. bind o (λ t. value (plan_if t))) (none_by (rows_of tables) p a k i j l)); few = omega arith; three = omega arith }
+unfolding planned_outcome words_by plan_if bind
+plan_other tables p a k i j l = record { answers = λ z t n. sym (ap (λ o. bind o (λ t. value (plan_if t))) (none_by (rows_of tables) p a k i j l)); few = omega arith }
 
 module _ (tables : Tables) (p : ℕ) (f : Facts) (out : List ℕ) (r : Result (Option ℕ) Refusal) (out' : List ℕ) where
   abbrev Told : Type 0

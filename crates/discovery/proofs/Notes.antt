@@ -1,24 +1,22 @@
 -- Laws of notes: the first of a path that leaves by a ring, and what is said of its path. Assumes nothing.
-use Prim.Native.Nat.{ℕ, suc, ◌+◌, ◌%◌, ◌≤◌, ◌<◌}
+use Prim.Native.Nat.{ℕ, suc, ◌+◌, ◌<◌}
 use mathlib.Core.Path.{◌≡◌, refl, sym, ap, ◌∙◌, subst}
-use mathlib.Core.Bool.{Bool, cond}
-use mathlib.Core.List.{List}
-use Rattle.std.specs.Prelude.{Option, Ok, Err, Result, None}
+use mathlib.Core.Bool.{Bool, true, false, cond}
+use mathlib.Core.List.{List, [], ◌∷◌}
+use Rattle.std.specs.Prelude.{Option, Ok, Err, Result, None, Some}
+use Rattle.std.specs.List.{position, position_from}
+use Rattle.std.proofs.lemmas.Iterator.Adapters.{position_from-zero}
 use native.Mathlib.Omega.{arith}
-use native.Mathlib.Numerals.{add-one}
-use lib.Dec.{eqb}
-use lib.ListN.{length, get_or, take, drop, drop_of_length-le}
-use lib.Seq.{drop-cons, length-take-le}
-use borrow.Author.Tests.{eq-eqb, ne_eqb}
+use lib.ListN.{get_or, take}
 use Rattle.refusal.specs.Outcome.{Outcome, value, bind}
 use Rattle.tables.specs.Rows.{Rows}
 use Rattle.refusal.proofs.Laws.{walk_bind}
 use Rattle.walk.specs.Tables.{Leaving, tally_outcome, Tallied, hops_by as hops_of_walk}
 use Rattle.receive.specs.Receive.{at}
-use Rattle.receive.specs.Tables.{Said, received_outcome, path_of, hops_by, note_stand, note_ring, said_from, walk_said, by_notes, Foretells, Receives, Searches}
+use Rattle.receive.specs.Tables.{Said, received_outcome, path_of, hops_by, note_stand, note_ring, said_from, walk_said, by_notes, is_path, Foretells, Receives, Searches}
 use Rattle.receive.specs.declared.Received.{Received}
 use Rattle.receive.specs.declared.Received.TheVariants as answer
-use Rattle.discovery.specs.Work.{Known, Told, NoteFound, NotePath}
+use Rattle.discovery.specs.Work.{Known, Told, under, NotePath}
 use Rattle.walk.specs.Tables.{walked_to}
 use Rattle.walk.specs.declared.Walked.{Walked}
 use Rattle.tables.specs.declared.Stand.{Stand}
@@ -26,38 +24,35 @@ use Rattle.tables.specs.declared.Tables.{Tables}
 use Rattle.tables.specs.Tables.{Tabled, rows_of}
 use Rattle.refusal.specs.declared.WalkError.{WalkError}
 
--- ---- the first note
+-- ---- the first note under a ring
 
--- those from a place on give what all give
-unfoldable pub Unfound : List ℕ → ℕ → ℕ → Type 0
-Unfound notes ring i = (x : Rows) (rest : Outcome Said) → by_notes x ring notes rest ≡ by_notes x ring (drop i notes) rest
+module _ (x : Rows) (ring : ℕ) (rest : Outcome Said) where
+  none_from : (q : ℕ) (notes : List ℕ) → position_from (under ring) q notes ≡ None → by_notes x ring notes rest ≡ rest
+  unfolding by_notes note_ring
+  none_from q [] e = refl
+  none_from q (w ∷ ws) e = go (under ring w) e (none_from (q + 1) ws)
+    where
+      go : (b : Bool) → cond b (Some q) (position_from (under ring) (q + 1) ws) ≡ None → (position_from (under ring) (q + 1) ws ≡ None → by_notes x ring ws rest ≡ rest) → cond b (walk_said x ring (note_stand w)) (by_notes x ring ws rest) ≡ rest
+      go true f ih = absurd (let y : ◌≡◌ {A = ℕ} 0 1 = cc in omega arith)
+      go false f ih = ih f
 
-module _ (notes : List ℕ) (ring : ℕ) where
-  pub unfound_start : Unfound notes ring 0
-  unfolding Unfound
-  unfound_start x rest = refl
+  first_from : (q i : ℕ) (notes : List ℕ) → position_from (under ring) q notes ≡ Some i → (k : ℕ) × (i ≡ q + k) × (by_notes x ring notes rest ≡ walk_said x ring (note_stand (get_or notes k 0)))
+  unfolding by_notes note_ring
+  first_from q i [] e = absurd (let y : ◌≡◌ {A = ℕ} 0 1 = cc in omega arith)
+  first_from q i (w ∷ ws) e = go (under ring w) e (first_from (q + 1) i ws)
+    where
+      go : (b : Bool) → cond b (Some q) (position_from (under ring) (q + 1) ws) ≡ Some i → (position_from (under ring) (q + 1) ws ≡ Some i → (k : ℕ) × (i ≡ q + 1 + k) × (by_notes x ring ws rest ≡ walk_said x ring (note_stand (get_or ws k 0))))
+          → (k : ℕ) × (i ≡ q + k) × (cond b (walk_said x ring (note_stand w)) (by_notes x ring ws rest) ≡ walk_said x ring (note_stand (get_or (w ∷ ws) k 0)))
+      go true f ih = let y : q ≡ i = cc in (0, omega (arith, y), refl)
+      go false f ih = let v = ih f in (suc v.0, omega (arith, v.1), v.2)
 
-  module _ (i : ℕ) (u : Unfound notes ring i) where
-    step : i < length notes → (x : Rows) (rest : Outcome Said) → by_notes x ring notes rest ≡ cond (eqb (get_or notes i 0 % 65536) ring) (walk_said x ring (note_stand (get_or notes i 0))) (by_notes x ring (drop (suc i) notes) rest)
-    unfolding by_notes note_ring Unfound
-    step l x rest = u x rest ∙ ap (λ (z : List ℕ). by_notes x ring z rest) (drop-cons notes i 0 l)
+  none_there : (notes : List ℕ) → position (under ring) notes ≡ None → by_notes x ring notes rest ≡ rest
+  none_there notes e = none_from 0 notes (sym (position_from-zero (under ring) notes) ∙ e)
 
-    pub unfound_on : i < length notes → (get_or notes i 0 % 65536 ≡ ring → ⊥) → Unfound notes ring (i + 1)
-    unfolding Unfound
-    unfound_on l n x rest =
-        step l x rest
-        ∙ ap (λ (b : Bool). cond b (walk_said x ring (note_stand (get_or notes i 0))) (by_notes x ring (drop (suc i) notes) rest)) (ne_eqb (get_or notes i 0 % 65536) ring n)
-        ∙ ap (λ (k : ℕ). by_notes x ring (drop k notes) rest) (sym (add-one i))
-
-    pub found_here : i < length notes → get_or notes i 0 % 65536 ≡ ring → NoteFound notes ring i
-    found_here l e = record {
-      here = λ m x rest. step l x rest ∙ ap (λ (b : Bool). cond b (walk_said x ring (note_stand (get_or notes i 0))) (by_notes x ring (drop (suc i) notes) rest)) (eq-eqb (get_or notes i 0 % 65536) ring e);
-      none_there = λ m. absurd (omega (arith, l, m));
-    }
-
-    pub found_none : length notes ≤ i → NoteFound notes ring i
-    unfolding by_notes Unfound
-    found_none l = record { here = λ m. absurd (omega (arith, l, m)); none_there = λ m x rest. u x rest ∙ ap (λ (z : List ℕ). by_notes x ring z rest) (drop_of_length-le notes {i = i} l) }
+  first_there : (i : ℕ) (notes : List ℕ) → position (under ring) notes ≡ Some i → by_notes x ring notes rest ≡ walk_said x ring (note_stand (get_or notes i 0))
+  first_there i notes e =
+      let v = first_from 0 i notes (sym (position_from-zero (under ring) notes) ∙ e) in
+      v.2 ∙ ap (λ (k : ℕ). walk_said x ring (note_stand (get_or notes k 0))) (let y : v.0 ≡ i = omega (arith, v.1) in y)
 
 -- ---- a note's path
 
@@ -84,19 +79,22 @@ module _ (tables : Tables) (note p a h : ℕ) (w : Result (Option Walked) WalkEr
 
 -- ---- what the notes tell
 
-module _ (tables : Tables) (notes : List ℕ) (ring : ℕ) (last : Result Received WalkError) (t : Told tables notes last) (few : length notes < 2048) (i : ℕ) (f : NoteFound notes ring i) where
-  pub told_last : length notes ≤ i → Receives tables ring last
-  told_last l = record { answers = λ y. sym ((t.tells few).tells y ring ∙ f.none_there l (rows_of tables) (received_outcome ring last)); few = t.few }
+module _ (tables : Tables) (notes : List ℕ) (ring : ℕ) (last : Result Received WalkError) (t : Told tables (Some notes) last) where
+  pub told_last : position (under ring) notes ≡ None → Receives tables ring last
+  told_last n = record { answers = λ y. sym ((t.tells notes refl).tells y ring ∙ none_there (rows_of tables) ring (received_outcome ring last) notes n); few = t.few }
 
-  pub told_path : i < length notes → (r : Result Received WalkError) → NotePath tables ring (get_or notes i 0) r → Receives tables ring r
-  told_path l r n = record { answers = λ y. n.says y ∙ sym ((t.tells few).tells y ring ∙ f.here l (rows_of tables) (received_outcome ring last)); few = n.few }
+  pub told_path : (i : ℕ) → position (under ring) notes ≡ Some i → (r : Result Received WalkError) → NotePath tables ring (get_or notes i 0) r → Receives tables ring r
+  told_path i f r n = record { answers = λ y. n.says y ∙ sym ((t.tells notes refl).tells y ring ∙ first_there (rows_of tables) ring (received_outcome ring last) i notes f); few = n.few }
 
--- a search's notes tell of all rings, where the count that is gone by is less than it had room for
-pub told_known : (tables : Tables) (ring room : ℕ) (found : Result Received WalkError) (noted : ℕ) (notes : List ℕ) → Searches room tables ring found noted notes → (count : ℕ) → Known found noted count → count ≤ room → (count < 2048 → count < room) → Told tables (take count notes) found
-told_known tables ring room found noted notes f count k fits less = record {
-  tells = λ l.
-      let m : count < 2048 = omega (arith, l, length-take-le count notes (omega (arith, fits, f.long))) in
-      let e = k.known m in
-      subst (λ (n : ℕ). Foretells tables (take n notes) found) (sym e.0) (f.tells e.1 (omega (arith, less m, e.0)));
+-- notes that are known tell of all rings
+pub told_known : (tables : Tables) (ring room : ℕ) (found : Result Received WalkError) (noted : ℕ) (notes : List ℕ) → Searches room tables ring found noted notes → (o : Option (List ℕ)) → Known room found noted notes o → Told tables o found
+told_known tables ring room found noted notes f o k = record {
+  tells = λ ns e. let m = k.known ns e in subst (λ l. Foretells tables l found) (sym m.0) (f.tells m.2 m.1);
   few = f.comes.few;
 }
+
+pub known_few : (room : ℕ) (found : Result Received WalkError) (noted : ℕ) (notes : List ℕ) → noted < room → is_path found ≡ false → Known room found noted notes (Some (take noted notes))
+known_few room found noted notes l n = record { known = λ ns e. (let y : take noted notes ≡ ns = cc in sym y, l, n) }
+
+pub none_known : (room : ℕ) (found : Result Received WalkError) (noted : ℕ) (notes : List ℕ) → Known room found noted notes None
+none_known room found noted notes = record { known = λ ns e. absurd (let y : ◌≡◌ {A = ℕ} 0 1 = cc in omega arith) }

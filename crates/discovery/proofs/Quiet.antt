@@ -1,7 +1,7 @@
 -- Laws of rings that no entry leaves by: how they are told, and that they have no tunnel. Assumes nothing.
 use Prim.Native.Nat.{ℕ, suc, ◌+◌, ◌*◌, ◌/◌, ◌%◌, ◌^◌, ◌≤◌, ◌<◌}
 use mathlib.Core.Path.{◌≡◌, refl, sym, ap, ◌∙◌, subst}
-use mathlib.Core.Bool.{Bool, true, false, cond, ◌&&◌, ◌||◌}
+use mathlib.Core.Bool.{Bool, true, false, cond, ◌&&◌, ◌||◌, true≢false}
 use mathlib.Core.List.{List}
 use Rattle.std.specs.Prelude.{None, Some, Result}
 use native.Mathlib.Omega.{arith}
@@ -46,28 +46,28 @@ module _ (en : List ℕ) (i v : ℕ) where
 
 -- ---- rings that are not marked
 
-unmarked : (ring : ℕ) (idle : List ℕ) → ring < length idle → Unmarked ring idle (set idle ring 0)
+unmarked : (ring : ℕ) (idle : List Bool) → ring < length idle → Unmarked ring idle (set idle ring false)
 unmarked ring idle l = record { keeps = λ j e. go j e (dec_lt j ring) (dec_lt ring j) }
   where
-    go : (j : ℕ) → get_or (set idle ring 0) j 0 ≡ 1 → Dec (j < ring) → Dec (ring < j) → (get_or idle j 0 ≡ 1) × (ring ≡ j → ⊥)
-    go j e (yes k) n = (sym (get_or-set_other idle ring j 0 0 (λ q. omega arith)) ∙ e, λ q. omega arith)
-    go j e (no k) (yes n) = (sym (get_or-set_other idle ring j 0 0 (λ q. omega arith)) ∙ e, λ q. omega arith)
-    go j e (no k) (no n) = absurd (let q : j ≡ ring = omega arith in omega (arith, sym e ∙ ap (λ i. get_or (set idle ring 0) i 0) q ∙ get_or-set_same idle ring 0 0 l))
+    go : (j : ℕ) → get_or (set idle ring false) j false ≡ true → Dec (j < ring) → Dec (ring < j) → (get_or idle j false ≡ true) × (ring ≡ j → ⊥)
+    go j e (yes k) n = (sym (get_or-set_other idle ring j false false (λ q. omega arith)) ∙ e, λ q. omega arith)
+    go j e (no k) (yes n) = (sym (get_or-set_other idle ring j false false (λ q. omega arith)) ∙ e, λ q. omega arith)
+    go j e (no k) (no n) = absurd (let q : j ≡ ring = omega arith in true≢false (sym e ∙ ap (λ (i : ℕ). get_or (set idle ring false) i false) q ∙ get_or-set_same idle ring false false l))
 
 -- there is none so large
-not_there : (ring : ℕ) (idle : List ℕ) → length idle ≤ ring → Unmarked ring idle idle
-not_there ring idle l = record { keeps = λ j e. (e, λ q. omega (arith, e, get_or-eq_default {A = ℕ} idle 0 {n = j} (omega (arith, q, l)))) }
+not_there : (ring : ℕ) (idle : List Bool) → length idle ≤ ring → Unmarked ring idle idle
+not_there ring idle l = record { keeps = λ j e. (e, λ q. true≢false (sym e ∙ get_or-eq_default idle false {n = j} (omega (arith, q, l)))) }
 
-pub unmarked_at : (i k : ℕ) (idle : List ℕ) → k ≡ i → k < length idle → Unmarked i idle (set idle k 0)
-unmarked_at i k idle e l = subst (λ j. Unmarked j idle (set idle k 0)) e (unmarked k idle l)
+pub unmarked_at : (i k : ℕ) (idle : List Bool) → k ≡ i → k < length idle → Unmarked i idle (set idle k false)
+unmarked_at i k idle e l = subst (λ j. Unmarked j idle (set idle k false)) e (unmarked k idle l)
 
-pub not_there_at : (i k : ℕ) (idle : List ℕ) → k ≡ i → length idle ≤ k → Unmarked i idle idle
+pub not_there_at : (i k : ℕ) (idle : List Bool) → k ≡ i → length idle ≤ k → Unmarked i idle idle
 not_there_at i k idle e l = subst (λ j. Unmarked j idle idle) e (not_there k idle l)
 
-pub spared_other : (w owner : ℕ) (old new : List ℕ) → Unmarked (mark_of (w % 65536)) old new → (w / 1099511627776 ≡ owner → ⊥) → Spared w owner old new
+pub spared_other : (w owner : ℕ) (old new : List Bool) → Unmarked (mark_of (w % 65536)) old new → (w / 1099511627776 ≡ owner → ⊥) → Spared w owner old new
 spared_other w owner old new u n = record { keeps = λ j e. let k = u.keeps j e in (k.0, k.1, λ q z. n q) }
 
-pub spared_both : (w owner : ℕ) (old mid new : List ℕ) → Unmarked (mark_of (w % 65536)) old mid → Unmarked (mark_of (w / 16777216 % 65536)) mid new → Spared w owner old new
+pub spared_both : (w owner : ℕ) (old mid new : List Bool) → Unmarked (mark_of (w % 65536)) old mid → Unmarked (mark_of (w / 16777216 % 65536)) mid new → Spared w owner old new
 spared_both w owner old mid new u v = record { keeps = λ j e. let k = v.keeps j e in let l = u.keeps j k.0 in (l.0, l.1, λ q z. k.1 z) }
 
 -- an entry that doesn't stand at an adapter's HopID
@@ -81,8 +81,8 @@ not_here w p a j n = go (eqb (w / 2 ^ 48) p) (eqb (w / 2 ^ 40 % 256) a) (eqb (w 
     go true true true e f g = absurd (n (eqb-true _ _ e) (eqb-true _ _ f) (eqb-true _ _ g))
 
 -- what rings are unmarked for the entries from a place on, for all
-pub record Sparing (en : List ℕ) (p a i : ℕ) (idle : List ℕ) : Type 0 where
-  pub left : (j : ℕ) → get_or idle (mark_of j) 0 ≡ 1 → Unasked (drop i en) p a j → Unasked en p a j
+pub record Sparing (en : List ℕ) (p a i : ℕ) (idle : List Bool) : Type 0 where
+  pub left : (j : ℕ) → get_or idle (mark_of j) false ≡ true → Unasked (drop i en) p a j → Unasked en p a j
 
 module _ (en : List ℕ) (p a i : ℕ) where
   entry_on : i < length en → (j : ℕ) → ((get_or en i 0 / 2 ^ 48 ≡ p) → (get_or en i 0 / 2 ^ 40 % 256 ≡ a) → (get_or en i 0 / 2 ^ 24 % 65536 ≡ j) → ⊥) → entry_in (entries_in (drop i en)) p a j ≡ entry_in (entries_in (drop (i + 1) en)) p a j
@@ -92,7 +92,7 @@ module _ (en : List ℕ) (p a i : ℕ) where
       ∙ ap (λ b. cond b (Some (entry_word (get_or en i 0))) (entry_in (entries_in (drop (suc i) en)) p a j)) (not_here (get_or en i 0) p a j n)
       ∙ ap (λ (k : ℕ). entry_in (entries_in (drop k en)) p a j) (sym (add-one i))
 
-  pub sparing_on : (idle idle' : List ℕ) → Sparing en p a i idle → i < length en → (owner : ℕ) → owner ≡ p % 65536 * 256 + a → a < 256 → Spared (get_or en i 0) owner idle idle' → Sparing en p a (i + 1) idle'
+  pub sparing_on : (idle idle' : List Bool) → Sparing en p a i idle → i < length en → (owner : ℕ) → owner ≡ p % 65536 * 256 + a → a < 256 → Spared (get_or en i 0) owner idle idle' → Sparing en p a (i + 1) idle'
   sparing_on idle idle' s l owner o b w = record {
     left = λ j e u.
         let k = w.keeps (mark_of j) e in
@@ -102,11 +102,11 @@ module _ (en : List ℕ) (p a i : ℕ) where
         });
   }
 
-  pub sparing_end : (idle : List ℕ) → Sparing en p a i idle → length en ≤ i → Resting en p a idle
+  pub sparing_end : (idle : List Bool) → Sparing en p a i idle → length en ≤ i → Resting en p a idle
   unfolding entry_in
   sparing_end idle s l = record { rests = λ j e. s.left j e (record { unused = out_end en i j l; missing = λ q. ap (λ (z : List ℕ). entry_in (entries_in z) p a j) (drop_of_length-le en {i = i} l) }) }
 
-pub sparing_start : (en : List ℕ) (p a : ℕ) (idle : List ℕ) → Sparing en p a 0 idle
+pub sparing_start : (en : List ℕ) (p a : ℕ) (idle : List Bool) → Sparing en p a 0 idle
 sparing_start en p a idle = record { left = λ j e u. u }
 
 -- ---- a search that isn't refused
@@ -136,5 +136,5 @@ module _ (tables : Tables) where
       ∙ ap (λ o. bind o (λ r. value (ring_tunnel None r))) y.1
       ∙ ap value (bare_tunnel (rows_of tables) v (unused (rows_of tables) v u.unused) y.0 y.1)
 
-  pub all_rest : (p a : ℕ) (idle : List ℕ) → Quiet tables → Resting tables.entries.now p a idle → Idle tables p a idle
+  pub all_rest : (p a : ℕ) (idle : List Bool) → Quiet tables → Resting tables.entries.now p a idle → Idle tables p a idle
   all_rest p a idle q u = record { rests = λ z t l j e. rests p a j q (u.rests j e) t l }

@@ -2,7 +2,7 @@
 use Rattle.std.specs.Option.{option_to_list}
 use Prim.Native.Nat.{ℕ, suc, ◌+◌, ◌-◌, ◌*◌, ◌≤◌, ◌<◌}
 use mathlib.Core.Path.{◌≡◌, refl, sym, ap, ◌∙◌, subst}
-use mathlib.Core.Bool.{Bool, true, false, cond}
+use mathlib.Core.Bool.{Bool, true, false, cond, true≢false}
 use mathlib.Core.Logic.{◌⊎◌, inl, inr, ⊎_elim}
 use mathlib.Core.List.{List, [], ◌∷◌, ◌++◌, append_assoc, append-nil}
 use Rattle.std.specs.Prelude.{Option, None, Some, Err, Ok, Result}
@@ -18,7 +18,7 @@ use Rattle.refusal.proofs.Laws.{walk_bind}
 use Rattle.path.proofs.Writing.{refused_as_lem}
 use Rattle.tunnel.specs.Tunnels.{Tunnel, one_dma, rings}
 use Rattle.tunnel.specs.Words.{tunnel_words, tunnels_words}
-use Rattle.tunnel.specs.Plans.{Plan, plan_of, plan_if, planned_outcome, words_by, paths_by, Plans}
+use Rattle.tunnel.specs.Plans.{Plan, starts_as, plan_of, plan_if, planned_outcome, words_by, Plans}
 use Rattle.tunnel.specs.declared.Plan.{Plan as Planned}
 use Rattle.discovery.specs.Work.{Wrote, tally_of, mark_of, Marked, Idle, Drafted, Tallies, RingPut, RingsPut, PlanPut}
 use Rattle.discovery.proofs.Walks.{one_dma_walks}
@@ -38,7 +38,7 @@ unfolding planned_outcome bind plan_if plan_of tally_of tunnels_words
 plan_words (Some p) (refused j vs) e w f = absurd (let z : ◌≡◌ {A = ℕ} 0 1 = cc in omega arith)
 plan_words (Some p) (value None) e w f = absurd (let z : ◌≡◌ {A = ℕ} 0 1 = cc in omega arith)
 plan_words (Some p) (value (Some t)) e w f =
-    let z : record { type = p.kind; closed = p.closed; words = p.words; starts = take p.paths (p.first ∷ p.second ∷ p.third ∷ []) } ≡ plan_of t = cc in
+    let z : record { type = p.kind; closed = p.closed; words = p.words; starts = starts_as p.starts } ≡ plan_of t = cc in
     let u : p.words ≡ length (tunnel_words t) = ap (λ (q : Plan). q.words) z in
     (Some t, refl, omega (arith, f, u, length-append (tunnel_words t) []), e)
 plan_words None (refused j vs) e w f = absurd (let z : ◌≡◌ {A = ℕ} 0 1 = cc in omega arith)
@@ -105,15 +105,15 @@ no_length : (l : List ℕ) → length l ≡ 0 → l ≡ []
 no_length [] e = refl
 no_length (x ∷ l) e = absurd (omega arith)
 
-pub not_marked : (ring words : ℕ) (idle : List ℕ) → Marked ring words idle idle
+pub not_marked : (ring words : ℕ) (idle : List Bool) → Marked ring words idle idle
 not_marked ring words idle = record { marks = λ j e. inl e }
 
-pub marked : (ring words : ℕ) (idle : List ℕ) → words ≤ 0 → ring ≤ 2046 → Marked ring words idle (set idle ring 1)
+pub marked : (ring words : ℕ) (idle : List Bool) → words ≤ 0 → ring ≤ 2046 → Marked ring words idle (set idle ring true)
 marked ring words idle l m = record { marks = λ j e. go j e (dec_lt j ring) (dec_lt ring j) }
   where
-    go : (j : ℕ) → get_or (set idle ring 1) j 0 ≡ 1 → Dec (j < ring) → Dec (ring < j) → (get_or idle j 0 ≡ 1) ⊎ ((j ≡ ring) × (ring < 2047) × (words < 1))
-    go j e (yes k) n = inl (sym (get_or-set_other idle ring j 1 0 (λ q. omega arith)) ∙ e)
-    go j e (no k) (yes n) = inl (sym (get_or-set_other idle ring j 1 0 (λ q. omega arith)) ∙ e)
+    go : (j : ℕ) → get_or (set idle ring true) j false ≡ true → Dec (j < ring) → Dec (ring < j) → (get_or idle j false ≡ true) ⊎ ((j ≡ ring) × (ring < 2047) × (words < 1))
+    go j e (yes k) n = inl (sym (get_or-set_other idle ring j true false (λ q. omega arith)) ∙ e)
+    go j e (no k) (yes n) = inl (sym (get_or-set_other idle ring j true false (λ q. omega arith)) ∙ e)
     go j e (no k) (no n) = inr (omega arith, omega arith, omega arith)
 
 -- a mark below 2,047 is one ring's
@@ -127,20 +127,20 @@ own_mark j ring e l = go (ltb 2047 j) refl e
 
 module _ (tables : Tables) (p a : ℕ) where
   -- none is marked
-  pub idle_start : (n : ℕ) → Idle tables p a (replicate n 0)
+  pub idle_start : (n : ℕ) → Idle tables p a (replicate n false)
   idle_start n = record { rests = λ z t q j e. absurd (go (mark_of j) e (dec_lt (mark_of j) n)) }
     where
-      go : (j : ℕ) → ◌≡◌ {A = ℕ} (get_or (replicate n 0) j 0) 1 → Dec (j < n) → ⊥
-      go j e (yes l) = omega (arith, get_or-replicate {A = ℕ} n j 0 0 l)
-      go j e (no l) = omega (arith, get_or-eq_default {A = ℕ} (replicate n 0) 0 {n = j} (omega (arith, length-replicate {A = ℕ} n 0)))
+      go : (j : ℕ) → get_or (replicate n false) j false ≡ true → Dec (j < n) → ⊥
+      go j e (yes l) = true≢false (sym e ∙ get_or-replicate n j false false l)
+      go j e (no l) = true≢false (sym e ∙ get_or-eq_default (replicate n false) false {n = j} (omega (arith, length-replicate n false)))
 
-  pub idle_marked : (idle idle' : List ℕ) → Idle tables p a idle → (ring : ℕ) (plan : Option Planned) → Plans tables p (λ x. one_dma x p a ring) (Ok plan) → (w : ℕ) → tally_of plan ≡ w → Marked ring w idle idle' → Idle tables p a idle'
+  pub idle_marked : (idle idle' : List Bool) → Idle tables p a idle → (ring : ℕ) (plan : Option Planned) → Plans tables p (λ x. one_dma x p a ring) (Ok plan) → (w : ℕ) → tally_of plan ≡ w → Marked ring w idle idle' → Idle tables p a idle'
   idle_marked idle idle' i ring plan f w e m = record { rests = λ z t q j g. ⊎_elim (i.rests z t q j) (λ h. subst (λ k. one_dma (rows_of tables) p a k ≡ value None) (sym (own_mark j ring h.0 h.1)) (here z t q h.2)) (m.marks (mark_of j) g) }
     where
       here : Sized tables → Tabled tables → p < 65536 → w < 1 → one_dma (rows_of tables) p a ring ≡ value None
       here z t q l = let y = plan_words plan (one_dma (rows_of tables) p a ring) (f.answers z t q) w e in y.1 ∙ ap value (no_words y.0 (omega (arith, y.2)))
 
-  pub ring_idle : (idle : List ℕ) → Idle tables p a idle → (ring : ℕ) → get_or idle (mark_of ring) 0 ≡ 1 → (at : ℕ) (out : List ℕ) → at ≤ length out → RingPut tables p a ring at out at out
+  pub ring_idle : (idle : List Bool) → Idle tables p a idle → (ring : ℕ) → get_or idle (mark_of ring) false ≡ true → (at : ℕ) (out : List ℕ) → at ≤ length out → RingPut tables p a ring at out at out
   unfolding tunnels_words
   ring_idle idle i ring e at out l = record {
     within = l;
@@ -165,12 +165,11 @@ module _ (tables : Tables) (p a : ℕ) where
     words = λ z t q o e room. absurd (let y = refused_as_lem (value (plan_if o)) (of_walk r) (f.answers z t q ∙ ap (λ y. bind y (λ t. value (plan_if t))) e) in let v = y.2 in let u : ◌≡◌ {A = ℕ} 0 1 = cc in omega arith);
   }
 
-  pub idle_plan : (idle : List ℕ) → Idle tables p a idle → (ring : ℕ) → get_or idle (mark_of ring) 0 ≡ 1 → Plans tables p (λ x. one_dma x p a ring) (Ok None)
-  unfolding planned_outcome words_by paths_by plan_if bind
+  pub idle_plan : (idle : List Bool) → Idle tables p a idle → (ring : ℕ) → get_or idle (mark_of ring) false ≡ true → Plans tables p (λ x. one_dma x p a ring) (Ok None)
+  unfolding planned_outcome words_by plan_if bind
   idle_plan idle i ring e = record {
     answers = λ z t l. sym (ap (λ o. bind o (λ k. value (plan_if k))) (i.rests z t l ring e));
     few = omega arith;
-    three = omega arith;
   }
 
 -- rings that are refused have no words to draft
@@ -234,7 +233,7 @@ module _ (tables : Tables) (p a end : ℕ) where
     }
 
   -- a ring that has none is passed
-  pub counted_past : (need ring : ℕ) → Counted need ring → ring < end → (idle : List ℕ) → Idle tables p a idle → get_or idle (mark_of ring) 0 ≡ 1 → Counted need (ring + 1)
+  pub counted_past : (need ring : ℕ) → Counted need ring → ring < end → (idle : List Bool) → Idle tables p a idle → get_or idle (mark_of ring) false ≡ true → Counted need (ring + 1)
   unfolding tally_of
   counted_past need ring c more idle i e = subst (λ n. Counted n (ring + 1)) (let y : need + 0 ≡ need = omega arith in y) (counted_on need ring c more None (idle_plan tables p a idle i ring e) 0 refl)
 

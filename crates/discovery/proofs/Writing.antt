@@ -17,8 +17,10 @@ use Rattle.path.specs.Words.{path_words, words_needed, with_path}
 use Rattle.path.specs.Put.{WalkPut}
 use Rattle.tunnel.specs.Tunnels.{Path, Tunnel}
 use Rattle.tunnel.specs.Words.{closed, paths_words, tunnel_word, tunnel_words, tunnels_words}
-use Rattle.tunnel.specs.Plans.{Plan, from_of, plan_of, plan_if, planned_as, planned_outcome, paths_by}
-use Rattle.tunnel.specs.declared.Start.{Start}
+use Rattle.tunnel.specs.Plans.{Start, Plan, start_as, starts_as, from_of, plan_of, plan_if, planned_as, planned_outcome}
+use Rattle.tunnel.specs.declared.Start.{Start as Started}
+use Rattle.tunnel.specs.declared.Starts.{Starts}
+use Rattle.tunnel.specs.declared.Starts.TheVariants as starts
 use Rattle.tunnel.specs.declared.Plan.{Plan as Planned}
 use Rattle.discovery.specs.Work.{Wrote, PathPut, AllWalk, Walks, PlanPut}
 use Rattle.tables.specs.declared.Stand.{Stand}
@@ -126,61 +128,50 @@ module _ (tables : Tables) where
   pub plan_full : (plan : Option Planned) (at : ℕ) (out : List ℕ) → at ≤ length out → length out ≤ at → PlanPut tables plan at out at out
   plan_full plan at out room l = plan_not_put plan at out room (λ t e k. omega arith)
 
-  module _ (plan : Option Planned) (k : TunnelType) (c : Bool) (w n : ℕ) (a b d : Start) (is-plan : plan ≡ Some (planned_as k c w n a b d)) (at : ℕ) (out : List ℕ) (room : at < length out) (word : ℕ)
-      (is : word ≡ 8 * 268435456 + cond c 65536 0 + n * 256 + tunnel_number k) where
-    abbrev three : List Start
-    three = a ∷ b ∷ d ∷ []
-
+  module _ (plan : Option Planned) (k : TunnelType) (c : Bool) (w : ℕ) (s : Starts) (is-plan : plan ≡ Some (planned_as k c w s)) (at : ℕ) (out : List ℕ) (room : at < length out) (word : ℕ)
+      (is : word ≡ 8 * 268435456 + cond c 65536 0 + length (starts_as s) * 256 + tunnel_number k) where
     -- the paths that are planned
-    plan_put : (r : ℕ) (out' : List ℕ) → r ≤ length out → length out' ≡ length out → (fs : List Start) → take n three ≡ fs → n ≡ length fs → Laid fs (at + 1) (set out at word) r out' → PlanPut tables plan at out r out'
+    plan_put : (r : ℕ) (out' : List ℕ) → r ≤ length out → length out' ≡ length out → Laid (starts_as s) (at + 1) (set out at word) r out' → PlanPut tables plan at out r out'
     unfolding planned_outcome plan_if plan_of tunnels_words tunnel_words tunnel_word Walks
-    plan_put r out' within long fs e l laid = record { within = within; long = long; words = λ z t o q v fits. go z t o (sym (ap (λ y. planned_outcome (Ok y)) is-plan) ∙ q) v fits }
+    plan_put r out' within long laid = record { within = within; long = long; words = λ z t o q v fits. go z t o (sym (ap (λ y. planned_outcome (Ok y)) is-plan) ∙ q) v fits }
       where
-        go : Sized tables → Tabled tables → (o : Option Tunnel) → planned_outcome (Ok (Some (planned_as k c w n a b d))) ≡ value (plan_if o) → Walks (rows_of tables) o → at + length (tunnels_words (option_to_list o)) ≤ length out → Wrote at (tunnels_words (option_to_list o)) out r out'
+        go : Sized tables → Tabled tables → (o : Option Tunnel) → planned_outcome (Ok (Some (planned_as k c w s))) ≡ value (plan_if o) → Walks (rows_of tables) o → at + length (tunnels_words (option_to_list o)) ≤ length out → Wrote at (tunnels_words (option_to_list o)) out r out'
         go z t None q v fits = absurd (let y : ◌≡◌ {A = ℕ} 0 1 = cc in omega arith)
         go z t (Some u) q v fits =
-            let plan-is : record { type = k; closed = c; words = w; starts = take n three } ≡ plan_of u = cc in
-            let paths : fs ≡ map from_of u.paths = sym e ∙ ap (λ (y : Plan). y.starts) plan-is in
+            let plan-is : record { type = k; closed = c; words = w; starts = starts_as s } ≡ plan_of u = cc in
+            let paths : starts_as s ≡ map from_of u.paths = ap (λ (y : Plan). y.starts) plan-is in
             let head : word ≡ tunnel_word u = is
-            ∙ ap (λ y. 8 * 268435456 + cond y 65536 0 + n * 256 + tunnel_number k) (ap (λ (y : Plan). y.closed) plan-is)
-            ∙ ap (λ y. 8 * 268435456 + cond (closed u) 65536 0 + y * 256 + tunnel_number k) (l ∙ ap length paths ∙ length-map u.paths from_of)
+            ∙ ap (λ y. 8 * 268435456 + cond y 65536 0 + length (starts_as s) * 256 + tunnel_number k) (ap (λ (y : Plan). y.closed) plan-is)
+            ∙ ap (λ y. 8 * 268435456 + cond (closed u) 65536 0 + y * 256 + tunnel_number k) (ap length paths ∙ length-map u.paths from_of)
             ∙ ap (λ y. 8 * 268435456 + cond (closed u) 65536 0 + length u.paths * 256 + tunnel_number y) (ap (λ (y : Plan). y.type) plan-is) in
             let f = length-append (tunnel_words u) [] in
             let one = wrote_word at word out room in
             let rest = laid_words z t u.paths v (at + 1) (set out at word) r out' (subst (λ y. Laid y (at + 1) (set out at word) r out') paths laid) (omega (arith, f, length-set out at word)) in
             subst (λ y. Wrote at y out r out') (ap (λ y. y ∷ paths_words u.paths) head ∙ sym (append-nil (tunnel_words u))) (wrote_then at (word ∷ []) out (at + 1) (set out at word) (omega arith) one (paths_words u.paths) r out' rest)
 
-    pub plan_put_0 : n < 1 → PlanPut tables plan at out (at + 1) (set out at word)
+  -- a tunnel of one path, of two, and of three
+  module _ (plan : Option Planned) (k : TunnelType) (c : Bool) (w : ℕ) (at : ℕ) (out : List ℕ) (room : at < length out) (word : ℕ) where
+    abbrev Head : ℕ → Type 0
+    Head n = word ≡ 8 * 268435456 + cond c 65536 0 + n * 256 + tunnel_number k
+
+    pub plan_put_1 : (a : Started) → plan ≡ Some (planned_as k c w (starts.One a)) → Head 1 → (r : ℕ) (out' : List ℕ) → PathPut tables (start_as a) (at + 1) (set out at word) r out' → PlanPut tables plan at out r out'
     unfolding Laid
-    plan_put_0 l = plan_put _ _ (omega arith) (length-set out at word) [] (ap (λ y. take y three) (let z : n ≡ 0 = omega arith in z)) (omega arith) (refl, refl)
+    plan_put_1 a e is r out' f =
+        plan_put plan k c w (starts.One a) e at out room word is r out' (omega (arith, f.within, length-set out at word)) (f.long ∙ length-set out at word) (r, out', f, (refl, refl))
 
-    module _ (i : ℕ) (one : List ℕ) (f : PathPut tables (a) (at + 1) (set out at word) i one) where
-      pub one_within : i ≤ length one
-      one_within = omega (arith, f.within, f.long)
+    pub plan_put_2 : (a b : Started) → plan ≡ Some (planned_as k c w (starts.Two a b)) → Head 2 → (i : ℕ) (one : List ℕ) → PathPut tables (start_as a) (at + 1) (set out at word) i one
+        → (r : ℕ) (out' : List ℕ) → PathPut tables (start_as b) i one r out' → PlanPut tables plan at out r out'
+    unfolding Laid
+    plan_put_2 a b e is i one f r out' h =
+        let l = f.long ∙ length-set out at word in
+        plan_put plan k c w (starts.Two a b) e at out room word is r out' (omega (arith, h.within, l)) (h.long ∙ l) (i, one, f, (r, out', h, (refl, refl)))
 
-      pub one_long : length one ≡ length out
-      one_long = f.long ∙ length-set out at word
-
-      pub plan_put_1 : 1 ≤ n → n < 2 → PlanPut tables plan at out i one
-      unfolding Laid
-      plan_put_1 g l = plan_put i one (omega (arith, one_within, one_long)) one_long (a ∷ []) (ap (λ y. take y three) (let z : n ≡ 1 = omega arith in z)) (omega arith) (i, one, f, (refl, refl))
-
-      module _ (j : ℕ) (two : List ℕ) (h : PathPut tables (b) i one j two) where
-        pub two_within : j ≤ length two
-        two_within = omega (arith, h.within, h.long)
-
-        pub two_long : length two ≡ length out
-        two_long = h.long ∙ one_long
-
-        pub plan_put_2 : 2 ≤ n → n < 3 → PlanPut tables plan at out j two
-        unfolding Laid
-        plan_put_2 g l = plan_put j two (omega (arith, two_within, two_long)) two_long (a ∷ b ∷ []) (ap (λ y. take y three) (let z : n ≡ 2 = omega arith in z)) (omega arith) (i, one, f, (j, two, h, (refl, refl)))
-
-        pub plan_put_3 : 3 ≤ n → paths_by (Ok plan) ≤ 3 → (r : ℕ) (out' : List ℕ) → PathPut tables (d) j two r out' → PlanPut tables plan at out r out'
-        unfolding Laid paths_by
-        plan_put_3 g few r out' x =
-            let most : n ≤ 3 = subst (λ y. paths_by (Ok y) ≤ 3) is-plan few in
-            plan_put r out' (omega (arith, x.within, two_long)) (x.long ∙ two_long) three (take_all n three g) (omega arith) (i, one, f, (j, two, h, (r, out', x, (refl, refl))))
+    pub plan_put_3 : (a b d : Started) → plan ≡ Some (planned_as k c w (starts.Three a b d)) → Head 3 → (i : ℕ) (one : List ℕ) → PathPut tables (start_as a) (at + 1) (set out at word) i one
+        → (j : ℕ) (two : List ℕ) → PathPut tables (start_as b) i one j two → (r : ℕ) (out' : List ℕ) → PathPut tables (start_as d) j two r out' → PlanPut tables plan at out r out'
+    unfolding Laid
+    plan_put_3 a b d e is i one f j two h r out' x =
+        let l = h.long ∙ f.long ∙ length-set out at word in
+        plan_put plan k c w (starts.Three a b d) e at out room word is r out' (omega (arith, x.within, l)) (x.long ∙ l) (i, one, f, (j, two, h, (r, out', x, (refl, refl))))
 
 -- ---- the head word
 

@@ -1,6 +1,6 @@
 -- For the contracts of private functions only. No promise to a caller rests on these. Assumes nothing.
 use Rattle.std.specs.Option.{option_to_list}
-use Rattle.std.specs.Prelude.{ℕ, ◌+◌, ◌/◌, ◌%◌, ◌≤◌, ◌<◌, ◌≡◌, ◌⊎◌, Bool, false, cond, ◌||◌, ltb, eqb, length, get_or, take, drop, Option, None, Some, Err, Ok, Result}
+use Rattle.std.specs.Prelude.{ℕ, ◌+◌, ◌/◌, ◌%◌, ◌≤◌, ◌<◌, ◌≡◌, ◌⊎◌, Bool, true, false, cond, ◌||◌, ltb, eqb, length, get_or, take, drop, Option, None, Some, Err, Ok, Result}
 use mathlib.Core.List.{List, [], ◌∷◌, ◌++◌, map}
 use Rattle.refusal.specs.Outcome.{Outcome, value, bind}
 use Rattle.usb4.specs.declared.TunnelType.TheVariants as tunnel_type
@@ -10,18 +10,17 @@ use Rattle.refusal.specs.Refusal.{is_given, IsMet, outcome, walk_outcome}
 use Rattle.walk.specs.Rule.{walk_from}
 use Rattle.path.specs.Words.{path_words}
 use Rattle.receive.specs.Receive.{Receive, receive}
-use Rattle.receive.specs.Tables.{Said, received_outcome, hops_by, note_stand, walk_said, by_notes, is_path, Foretells}
+use Rattle.receive.specs.Tables.{received_outcome, hops_by, note_stand, walk_said, is_path, Foretells}
 use Rattle.receive.specs.declared.Received.{Received}
 use Rattle.tunnel.specs.Tunnels.{Path, Tunnel, down_and_up, display_port, one_dma, rings, or_none, alone}
 use Rattle.tunnel.specs.Words.{tunnels_words}
-use Rattle.tunnel.specs.Plans.{start_of, plan_if, planned_outcome}
+use Rattle.tunnel.specs.Plans.{Start, start_of, plan_if, planned_outcome}
 use Rattle.tunnel.specs.declared.Plan.{Plan as Planned}
 use Rattle.discovery.specs.Answers.{in_room, output_by}
 use Rattle.refusal.specs.Refusal.{outcome, is_given, IsMet, walk_outcome}
 use Rattle.refusal.specs.declared.Refusal.{Refusal}
 use Rattle.tables.specs.declared.Tables.{Tables}
 use Rattle.tables.specs.Tables.{Sized, Tabled, rows_of}
-use Rattle.tunnel.specs.declared.Start.{Start}
 use Rattle.refusal.specs.declared.WalkError.{WalkError}
 
 -- words put from a place on, and the place after them
@@ -65,12 +64,12 @@ unfoldable pub mark_of : ℕ → ℕ
 mark_of ring = cond (ltb 2047 ring) 2047 ring
 
 -- a ring is marked, if it needs no words and has a mark of its own, and no other
-pub record Marked (ring words : ℕ) (old new : List ℕ) : Type 0 where
-  pub marks : (j : ℕ) → get_or new j 0 ≡ 1 → (get_or old j 0 ≡ 1) ⊎ ((j ≡ ring) × (ring < 2047) × (words < 1))
+pub record Marked (ring words : ℕ) (old new : List Bool) : Type 0 where
+  pub marks : (j : ℕ) → get_or new j false ≡ true → (get_or old j false ≡ true) ⊎ ((j ≡ ring) × (ring < 2047) × (words < 1))
 
 -- a ring that is marked has no tunnel
-pub record Idle (tables : Tables) (p a : ℕ) (idle : List ℕ) : Type 0 where
-  pub rests : Sized tables → Tabled tables → p < 65536 → (j : ℕ) → get_or idle (mark_of j) 0 ≡ 1 → one_dma (rows_of tables) p a j ≡ value None
+pub record Idle (tables : Tables) (p a : ℕ) (idle : List Bool) : Type 0 where
+  pub rests : Sized tables → Tabled tables → p < 65536 → (j : ℕ) → get_or idle (mark_of j) false ≡ true → one_dma (rows_of tables) p a j ≡ value None
 
 -- a number is in a list
 unfoldable pub among : ℕ → List ℕ → Bool
@@ -91,31 +90,29 @@ pub record Unasked (en : List ℕ) (p a ring : ℕ) : Type 0 where
   pub missing : p < 65536 → entry_in (entries_in en) p a ring ≡ None
 
 -- there is no mark at a place, and no other mark is new
-pub record Unmarked (i : ℕ) (old new : List ℕ) : Type 0 where
-  pub keeps : (j : ℕ) → get_or new j 0 ≡ 1 → (get_or old j 0 ≡ 1) × (i ≡ j → ⊥)
+pub record Unmarked (i : ℕ) (old new : List Bool) : Type 0 where
+  pub keeps : (j : ℕ) → get_or new j false ≡ true → (get_or old j false ≡ true) × (i ≡ j → ⊥)
 
 -- the same of the ring that an entry leaves by and, where the entry is an owner's (place x 256 + adapter), of the one at which it stands
-pub record Spared (w owner : ℕ) (old new : List ℕ) : Type 0 where
-  pub keeps : (j : ℕ) → get_or new j 0 ≡ 1 → (get_or old j 0 ≡ 1) × (mark_of (w % 65536) ≡ j → ⊥) × (w / 1099511627776 ≡ owner → mark_of (w / 16777216 % 65536) ≡ j → ⊥)
+pub record Spared (w owner : ℕ) (old new : List Bool) : Type 0 where
+  pub keeps : (j : ℕ) → get_or new j false ≡ true → (get_or old j false ≡ true) × (mark_of (w % 65536) ≡ j → ⊥) × (w / 1099511627776 ≡ owner → mark_of (w / 16777216 % 65536) ≡ j → ⊥)
 
 -- no entry leaves by a ring that is marked, and none stands at it
-pub record Resting (en : List ℕ) (p a : ℕ) (idle : List ℕ) : Type 0 where
-  pub rests : (j : ℕ) → get_or idle (mark_of j) 0 ≡ 1 → Unasked en p a j
+pub record Resting (en : List ℕ) (p a : ℕ) (idle : List Bool) : Type 0 where
+  pub rests : (j : ℕ) → get_or idle (mark_of j) false ≡ true → Unasked en p a j
 
--- how many notes of a search there are; 2,048 where a path is found, or there are that many
-pub record Known (found : Result Received WalkError) (noted r : ℕ) : Type 0 where
-  pub within : r ≤ 2048
-  pub known : r < 2048 → (r ≡ noted) × (is_path found ≡ false)
+-- those of a search's notes that are there, if no path is found, and they are fewer than there is room for
+pub record Known (room : ℕ) (found : Result Received WalkError) (noted : ℕ) (notes : List ℕ) (r : Option (List ℕ)) : Type 0 where
+  pub known : (ns : List ℕ) → r ≡ Some ns → (ns ≡ take noted notes) × (noted < room) × (is_path found ≡ false)
 
--- fewer than 2,048 notes, with what the search came to, tell of all rings
-pub record Told (tables : Tables) (notes : List ℕ) (last : Result Received WalkError) : Type 0 where
-  pub tells : length notes < 2048 → Foretells tables notes last
+-- notes, if there are any, tell of all rings with what the search came to
+pub record Told (tables : Tables) (notes : Option (List ℕ)) (last : Result Received WalkError) : Type 0 where
+  pub tells : (ns : List ℕ) → notes ≡ Some ns → Foretells tables ns last
   pub few : hops_by last ≤ length tables.entries.now
 
--- the first note of a path that leaves by a ring, or there is none
-pub record NoteFound (notes : List ℕ) (ring r : ℕ) : Type 0 where
-  pub here : r < length notes → (x : Rows) (rest : Outcome Said) → by_notes x ring notes rest ≡ walk_said x ring (note_stand (get_or notes r 0))
-  pub none_there : length notes ≤ r → (x : Rows) (rest : Outcome Said) → by_notes x ring notes rest ≡ rest
+-- a note's path leaves by a ring
+abbrev pub under : ℕ → ℕ → Bool
+under ring note = eqb (note % 65536) ring
 
 -- what is said of a note's path
 pub record NotePath (tables : Tables) (ring note : ℕ) (r : Result Received WalkError) : Type 0 where

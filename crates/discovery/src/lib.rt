@@ -1,21 +1,22 @@
 // Discovery (module 7, `Tunnel::discover`) on the tables that a survey is loaded to: a tally first, and with it a draft of the words; then the words.
 #![tactic(auto)]
 
-ghost use Rattle.std.specs.Prelude.{ℕ, ◌+◌, ◌*◌, ◌-◌, ◌≤◌, ◌<◌, ◌≡◌, true, cond, List, length, get_or, Ok};
+ghost use Rattle.std.specs.Prelude.{ℕ, ◌+◌, ◌*◌, ◌-◌, ◌≤◌, ◌<◌, ◌≡◌, true, false, cond, List, length, get_or, position, option_copied, Some, Ok};
 ghost use Rattle.usb4.specs.Numbers.{tunnel_number, type_number};
 ghost use Rattle.adapter.specs.Adapter.{facts_row};
-ghost use Rattle.receive.specs.Tables.{Receives};
+ghost use Rattle.receive.specs.Tables.{is_path, Receives, Searches};
 ghost use Rattle.tunnel.specs.Tunnels.{discover, one_dma};
-ghost use Rattle.tunnel.specs.Plans.{Plans, paths_by};
+ghost use Rattle.tunnel.specs.Plans.{Plans, start_as};
 ghost use Rattle.discovery.specs.Tables.{Discovered};
-ghost use Rattle.discovery.specs.Work.{PathPut, PlanPut, Marked, Unmarked, Spared, Resting, Idle, Quiet, mark_of, Known, Told, NoteFound, NotePath, among, out_hops, Drafted, Tallies, RingPut, RingsPut, OneAnswered, Answered, ring_list, dma_by, tunnel_by, tally_of, rings_end};
+ghost use Rattle.discovery.specs.Work.{PathPut, PlanPut, Marked, Unmarked, Spared, Resting, Idle, Quiet, mark_of, Known, Told, under, NotePath, among, out_hops, Drafted, Tallies, RingPut, RingsPut, OneAnswered, Answered, ring_list, dma_by, tunnel_by, tally_of, rings_end};
 ghost use Rattle.refusal.specs.Refusal.{field_at};
 
 use adapter::Facts;
-use receive::{ReceivePath, Received};
+use path::PathName;
+use receive::{ReceivePath, Received, Searched};
 use refusal::{Fault, FieldError, Refusal, Site, WalkError};
 use tables::{Stand, Tables};
-use tunnel::{Plan, Start};
+use tunnel::{Plan, Start, Starts};
 use usb4::{AdapterType, State, TunnelType};
 
 // No survey loads to more.
@@ -23,15 +24,12 @@ const MOST_ENTRIES: usize = 4096;
 
 const MOST_DEVICES: usize = 4096;
 
-// So many notes of a search tell nothing of other rings; no search has more. It stands too for those of a search that found a path.
-const UNTOLD: usize = 2048;
-
-// The rings of a host interface, an adapter of the device at a place, with what the search for ring 65,535 noted and came to.
+// The rings of a host interface, an adapter of the device at a place, with what the search for ring 65,535 came to, and its notes, if they tell of all rings.
 #[derive(Clone, Copy)]
 struct HostRings<'a> {
     tables: Tables<'a>,
     site: Site,
-    notes: &'a [u64],
+    notes: Option<&'a [u64]>,
     last: Result<Received, WalkError>,
 }
 
@@ -49,7 +47,7 @@ fn tunnel_word(kind: TunnelType, closed: bool, paths: u8) -> u32
 // Writes a path from a place of the output on; the place after it.
 fn put_start(tables: &Tables, start: Start, output: &mut [u32], at: usize) -> usize
     requires { at ≤ length output.old }
-    ensures { PathPut tables.now start at output.old result output.new }
+    ensures { PathPut tables.now (start_as start) at output.old result output.new }
 {
     let words = path::put_walk(tables, start.stand, start.name, &mut output[at..]);
     at + words
@@ -57,29 +55,36 @@ fn put_start(tables: &Tables, start: Start, output: &mut [u32], at: usize) -> us
 
 // Writes a planned tunnel from a place of the output on; the place after it.
 fn put_plan(tables: &Tables, plan: Option<Plan>, output: &mut [u32], at: usize) -> usize
-    requires { (at ≤ length output.old) × (paths_by (Ok plan) ≤ 3) }
+    requires { at ≤ length output.old }
     ensures { PlanPut tables.now plan at output.old result output.new }
 {
     let Some(p) = plan else {
         return at;
     };
-    let paths = p.paths;
     if output.len() <= at {
         return at;
     }
-    output[at] = tunnel_word(p.kind, p.closed, paths);
-    if paths < 1 {
-        return at + 1;
+    match p.starts {
+        Starts::One(start) => {
+            output[at] = tunnel_word(p.kind, p.closed, 1);
+            put_start(tables, start, output, at + 1)
+        }
+        Starts::Two { first, last } => {
+            output[at] = tunnel_word(p.kind, p.closed, 2);
+            let a = put_start(tables, first, output, at + 1);
+            put_start(tables, last, output, a)
+        }
+        Starts::Three {
+            first,
+            second,
+            last,
+        } => {
+            output[at] = tunnel_word(p.kind, p.closed, 3);
+            let a = put_start(tables, first, output, at + 1);
+            let b = put_start(tables, second, output, a);
+            put_start(tables, last, output, b)
+        }
     }
-    let a = put_start(tables, p.first, output, at + 1);
-    if paths < 2 {
-        return a;
-    }
-    let b = put_start(tables, p.second, output, a);
-    if paths < 3 {
-        return b;
-    }
-    put_start(tables, p.third, output, b)
 }
 
 // The words of a planned tunnel.
@@ -141,18 +146,18 @@ fn mark_of(ring: usize) -> usize
 }
 
 // Unmarks a ring.
-fn unmark(idle: &mut [u8], ring: usize)
+fn unmark(idle: &mut [bool], ring: usize)
     ensures { Unmarked (mark_of ring) idle.old idle.new }
 {
     let i = mark_of(ring);
     if idle.len() <= i {
         return;
     }
-    idle[i] = 0;
+    idle[i] = false;
 }
 
 // Unmarks the ring that an entry leaves by and, where it is an entry of the owner (place x 256 + adapter), the one at which it stands.
-fn unmark_used(idle: &mut [u8], entry: u64, owner: u64)
+fn unmark_used(idle: &mut [bool], entry: u64, owner: u64)
     ensures { Spared entry owner idle.old idle.new }
 {
     unmark(idle, (entry % 65536) as usize);
@@ -163,7 +168,7 @@ fn unmark_used(idle: &mut [u8], entry: u64, owner: u64)
 }
 
 // Unmarks the rings that entries leave by, and those at which entries of an adapter of the device at a place stand.
-fn unmark_all(entries: &[u64], site: Site, idle: &mut [u8])
+fn unmark_all(entries: &[u64], site: Site, idle: &mut [bool])
     ensures { Resting entries.now site.place site.adapter idle.new }
 {
     let owner = (site.place % 65536) as u64 * 256 + site.adapter as u64;
@@ -172,44 +177,50 @@ fn unmark_all(entries: &[u64], site: Site, idle: &mut [u8])
     }
 }
 
-// The rings that are known to have no tunnel before each is asked, marked with 1.
-fn at_rest(rings: &HostRings) -> [u8; 2048]
+// The rings that are known to have no tunnel before each is asked, marked.
+fn at_rest(rings: &HostRings) -> [bool; 2048]
     ensures { Receives rings.now.tables 65535 rings.now.last → Idle rings.now.tables rings.now.site.place rings.now.site.adapter result }
 {
     if !is_quiet(&rings.tables, rings.last) {
-        return [0u8; 2048];
+        return [false; 2048];
     }
-    let mut idle = [1u8; 2048];
+    let mut idle = [true; 2048];
     unmark_all(rings.tables.entries, rings.site, &mut idle);
     idle
 }
 
-// How many notes of a search there are; `UNTOLD` where a path is found, or there are that many. As many as the search had room for tell nothing.
-fn known_notes(found: Result<Received, WalkError>, noted: usize) -> usize
-    ensures { Known found noted result }
+// Whether a search found a path.
+fn is_path(found: Result<Received, WalkError>) -> bool
+    ensures { result ≡ is_path found }
 {
-    if UNTOLD <= noted {
-        return UNTOLD;
-    }
     match found {
-        Ok(Received::Nothing) => noted,
-        Ok(Received::Lost) => noted,
-        Ok(Received::Path(_)) => UNTOLD,
-        Err(_) => noted,
+        Ok(Received::Path(_)) => true,
+        Ok(Received::Nothing) => false,
+        Ok(Received::Lost) => false,
+        Err(_) => false,
     }
 }
 
-// The first note of a path that leaves by a ring, or how many notes there are.
-fn find_note(notes: &[u64], ring: u16) -> usize
-    ensures { NoteFound notes.now ring result }
+// The notes of a search, if they tell of all rings: those of one that found a path don't, nor do as many as it had room for.
+fn known_notes<const ROOM: usize>(searched: &Searched<ROOM>) -> Option<&[u64]>
+    ensures { Known ROOM searched.now.found searched.now.noted searched.now.notes (option_copied result) }
+{
+    let noted = searched.noted;
+    if ROOM <= noted {
+        return None;
+    }
+    if is_path(searched.found) {
+        return None;
+    }
+    Some(&searched.notes[..noted])
+}
+
+// The place of the first note of a path that leaves by a ring.
+fn find_note(notes: &[u64], ring: u16) -> Option<usize>
+    ensures { result ≡ position (λ note. under ring note) notes.now }
 {
     let wanted = ring as u64;
-    for i in 0..notes.len() {
-        if notes[i] % 65536 == wanted {
-            return i;
-        }
-    }
-    notes.len()
+    notes.iter().position(|note| *note % 65536 == wanted)
 }
 
 // The path of a note, which leaves by a ring.
@@ -233,27 +244,32 @@ fn noted_path(tables: &Tables, note: u64) -> Result<Received, WalkError>
     }))
 }
 
-// The receive path of a ring: by notes, where there are fewer than `UNTOLD`, with `last` for the rings that have none; else by a search.
-fn received_by(rings: &HostRings, ring: u16) -> Result<Received, WalkError>
-    requires { Told rings.now.tables rings.now.notes.now rings.now.last }
+// The receive path of a ring by notes that tell of all rings, with `last` for the rings that have none.
+fn path_by_notes(rings: &HostRings, notes: &[u64], ring: u16) -> Result<Received, WalkError>
+    requires { Told rings.now.tables (Some notes.now) rings.now.last }
     ensures { Receives rings.now.tables ring result }
 {
-    let notes = rings.notes;
-    if UNTOLD <= notes.len() {
+    match find_note(notes, ring) {
+        Some(i) => noted_path(&rings.tables, notes[i]),
+        None => rings.last,
+    }
+}
+
+// The receive path of a ring: by notes, if there are any that tell; else by a search.
+fn received_by(rings: &HostRings, ring: u16) -> Result<Received, WalkError>
+    requires { Told rings.now.tables (option_copied rings.now.notes) rings.now.last }
+    ensures { Receives rings.now.tables ring result }
+{
+    let Some(notes) = rings.notes else {
         let searched = receive::receive::<64>(&rings.tables, ring);
-        let found = searched.found;
-        return found;
-    }
-    let i = find_note(notes, ring);
-    if notes.len() <= i {
-        return rings.last;
-    }
-    noted_path(&rings.tables, notes[i])
+        return searched.found;
+    };
+    path_by_notes(rings, notes, ring)
 }
 
 // A ring's tunnel.
 fn plan_ring(rings: &HostRings, ring: u16) -> Result<Option<Plan>, WalkError>
-    requires { Told rings.now.tables rings.now.notes.now rings.now.last }
+    requires { Told rings.now.tables (option_copied rings.now.notes) rings.now.last }
     ensures { Plans rings.now.tables rings.now.site.place (λ x. one_dma x rings.now.site.place rings.now.site.adapter ring) result }
 {
     let received = received_by(rings, ring);
@@ -266,7 +282,7 @@ fn plan_ring(rings: &HostRings, ring: u16) -> Result<Option<Plan>, WalkError>
 }
 
 // Marks a ring that needs no words, if it has a mark of its own.
-fn mark(idle: &mut [u8; 2048], ring: u32, words: usize)
+fn mark(idle: &mut [bool; 2048], ring: u32, words: usize)
     ensures { Marked ring words idle.old idle.new }
 {
     if 0 < words {
@@ -275,17 +291,17 @@ fn mark(idle: &mut [u8; 2048], ring: u32, words: usize)
     if 2046 < ring {
         return;
     }
-    idle[ring as usize] = 1;
+    idle[ring as usize] = true;
 }
 
 // The words of the tunnels of rings 1 to `end`, which is left out; the rings that have none are marked, and the words are drafted as far as there is room.
 fn tally_rings(
     rings: &HostRings,
     end: u32,
-    idle: &mut [u8; 2048],
+    idle: &mut [bool; 2048],
     draft: &mut [u32],
 ) -> Result<usize, WalkError>
-    requires { (1 ≤ end) × (end ≤ 65536) × Idle rings.now.tables rings.now.site.place rings.now.site.adapter idle.old × Told rings.now.tables rings.now.notes.now rings.now.last }
+    requires { (1 ≤ end) × (end ≤ 65536) × Idle rings.now.tables rings.now.site.place rings.now.site.adapter idle.old × Told rings.now.tables (option_copied rings.now.notes) rings.now.last }
     ensures tallies { Tallies rings.now.tables rings.now.site.place rings.now.site.adapter (end - 1) result × Idle rings.now.tables rings.now.site.place rings.now.site.adapter idle.new }
     ensures drafted { Drafted rings.now.tables rings.now.site.place rings.now.site.adapter (end - 1) draft.new }
 {
@@ -305,15 +321,21 @@ fn tally_rings(
 }
 
 // Whether a ring is marked.
-fn is_idle(idle: &[u8; 2048], ring: u32) -> bool
-    ensures { result ≡ true → get_or idle.now (mark_of ring) 0 ≡ 1 }
+fn is_idle(idle: &[bool; 2048], ring: u32) -> bool
+    ensures { result ≡ get_or idle.now (mark_of ring) false }
 {
-    idle[mark_of(ring as usize)] == 1
+    idle[mark_of(ring as usize)]
 }
 
 // Writes the tunnel of a ring from a place of the output on, unless the ring is marked; the place after it.
-fn put_ring(rings: &HostRings, ring: u32, idle: &[u8; 2048], output: &mut [u32], at: usize) -> usize
-    requires { (ring < 65536) × (at ≤ length output.old) × Idle rings.now.tables rings.now.site.place rings.now.site.adapter idle.now × Told rings.now.tables rings.now.notes.now rings.now.last }
+fn put_ring(
+    rings: &HostRings,
+    ring: u32,
+    idle: &[bool; 2048],
+    output: &mut [u32],
+    at: usize,
+) -> usize
+    requires { (ring < 65536) × (at ≤ length output.old) × Idle rings.now.tables rings.now.site.place rings.now.site.adapter idle.now × Told rings.now.tables (option_copied rings.now.notes) rings.now.last }
     ensures { RingPut rings.now.tables rings.now.site.place rings.now.site.adapter ring at output.old result output.new }
 {
     if is_idle(idle, ring) {
@@ -326,8 +348,8 @@ fn put_ring(rings: &HostRings, ring: u32, idle: &[u8; 2048], output: &mut [u32],
 }
 
 // Writes the tunnels of rings 1 to `end`, which is left out, until the output is full.
-fn put_rings(rings: &HostRings, end: u32, idle: &[u8; 2048], output: &mut [u32])
-    requires { (1 ≤ end) × (end ≤ 65536) × Idle rings.now.tables rings.now.site.place rings.now.site.adapter idle.now × Told rings.now.tables rings.now.notes.now rings.now.last }
+fn put_rings(rings: &HostRings, end: u32, idle: &[bool; 2048], output: &mut [u32])
+    requires { (1 ≤ end) × (end ≤ 65536) × Idle rings.now.tables rings.now.site.place rings.now.site.adapter idle.now × Told rings.now.tables (option_copied rings.now.notes) rings.now.last }
     ensures { RingsPut rings.now.tables rings.now.site.place rings.now.site.adapter (end - 1) output.old output.new }
 {
     let mut at: usize = 0;
@@ -340,8 +362,8 @@ fn put_rings(rings: &HostRings, end: u32, idle: &[u8; 2048], output: &mut [u32])
 }
 
 // Writes the tunnels of rings 1 to `end`, which is left out: as they were drafted, if there was room for them.
-fn put_tallied(rings: &HostRings, end: u32, idle: &[u8; 2048], draft: &[u32], output: &mut [u32])
-    requires { (1 ≤ end) × (end ≤ 65536) × Idle rings.now.tables rings.now.site.place rings.now.site.adapter idle.now × Drafted rings.now.tables rings.now.site.place rings.now.site.adapter (end - 1) draft.now × Told rings.now.tables rings.now.notes.now rings.now.last }
+fn put_tallied(rings: &HostRings, end: u32, idle: &[bool; 2048], draft: &[u32], output: &mut [u32])
+    requires { (1 ≤ end) × (end ≤ 65536) × Idle rings.now.tables rings.now.site.place rings.now.site.adapter idle.now × Drafted rings.now.tables rings.now.site.place rings.now.site.adapter (end - 1) draft.now × Told rings.now.tables (option_copied rings.now.notes) rings.now.last }
     ensures { RingsPut rings.now.tables rings.now.site.place rings.now.site.adapter (end - 1) output.old output.new }
 {
     let need = output.len();
@@ -358,7 +380,6 @@ fn put_one(
     plan: Option<Plan>,
     output: &mut [u32],
 ) -> Result<Option<usize>, Refusal>
-    requires { paths_by (Ok plan) ≤ 3 }
     ensures { OneAnswered tables.now plan output.old result output.new }
 {
     let Some(p) = plan else {
@@ -374,7 +395,7 @@ fn put_one(
 
 // The tunnels of rings 1 to `end`, which is left out, by what the search for ring 65,535 noted and came to.
 fn put_noted(rings: &HostRings, end: u32, output: &mut [u32]) -> Result<Option<usize>, Refusal>
-    requires { (1 ≤ end) × (end ≤ 65536) × Told rings.now.tables rings.now.notes.now rings.now.last × Receives rings.now.tables 65535 rings.now.last }
+    requires { (1 ≤ end) × (end ≤ 65536) × Told rings.now.tables (option_copied rings.now.notes) rings.now.last × Receives rings.now.tables 65535 rings.now.last }
     ensures { Answered rings.now.tables rings.now.site.place (λ x. ring_list x rings.now.site.place rings.now.site.adapter (end - 1)) output.old result output.new }
 {
     let mut idle = at_rest(rings);
@@ -385,6 +406,26 @@ fn put_noted(rings: &HostRings, end: u32, output: &mut [u32]) -> Result<Option<u
     }
     put_tallied(rings, end, &idle, &draft, &mut output[..need]);
     Ok(Some(need))
+}
+
+// The same by a search for ring 65,535, whatever it had room for.
+fn put_by_search<const ROOM: usize>(
+    tables: &Tables,
+    site: Site,
+    end: u32,
+    searched: &Searched<ROOM>,
+    output: &mut [u32],
+) -> Result<Option<usize>, Refusal>
+    requires { (1 ≤ end) × (end ≤ 65536) × Searches ROOM tables.now 65535 searched.now.found searched.now.noted searched.now.notes }
+    ensures { Answered tables.now site.place (λ x. ring_list x site.place site.adapter (end - 1)) output.old result output.new }
+{
+    let rings = HostRings {
+        tables: *tables,
+        site,
+        notes: known_notes(searched),
+        last: searched.found,
+    };
+    put_noted(&rings, end, output)
 }
 
 // The same by a search with room for many notes: some 32 KiB of stack, which most surveys needn't pay for.
@@ -398,16 +439,7 @@ fn put_far(
     ensures { Answered tables.now site.place (λ x. ring_list x site.place site.adapter (end - 1)) output.old result output.new }
 {
     let searched = receive::receive::<2048>(tables, 65535);
-    let last = searched.found;
-    let notes = searched.notes;
-    let count = known_notes(last, searched.noted);
-    let rings = HostRings {
-        tables: *tables,
-        site,
-        notes: &notes[..count],
-        last,
-    };
-    put_noted(&rings, end, output)
+    put_by_search(tables, site, end, &searched, output)
 }
 
 // The same by a search with room for few notes, if they tell of all rings; if not, or where `far` says so, by one with room for many. It calls itself before it calls `put_far`: the compiler puts no large room into the frame of a function that calls itself. Otherwise the room of `put_far` would be in the frame of every answer.
@@ -425,19 +457,10 @@ fn put_searched(
         return put_far(tables, site, end, output);
     }
     let searched = receive::receive::<64>(tables, 65535);
-    let last = searched.found;
-    let notes = searched.notes;
-    let count = known_notes(last, searched.noted);
-    if 63 < count {
+    if known_notes(&searched).is_none() {
         return put_searched(tables, site, end, true, output);
     }
-    let rings = HostRings {
-        tables: *tables,
-        site,
-        notes: &notes[..count],
-        last,
-    };
-    put_noted(&rings, end, output)
+    put_by_search(tables, site, end, &searched, output)
 }
 
 // The tunnels of the rings of a host interface.
@@ -467,11 +490,11 @@ fn plan_of(tables: &Tables, site: Site, kind: AdapterType) -> Result<Option<Plan
         AdapterType::DisplayPortIn => tunnel::display_port(tables, site),
         AdapterType::PcieDown => {
             let pcie = TunnelType::Pcie;
-            tunnel::down_and_up(tables, site, pcie, 5, 6)
+            tunnel::down_and_up(tables, site, pcie, PathName::PcieDown, PathName::PcieUp)
         }
         AdapterType::Usb3Down => {
             let usb3 = TunnelType::Usb3;
-            tunnel::down_and_up(tables, site, usb3, 0, 1)
+            tunnel::down_and_up(tables, site, usb3, PathName::Usb3Down, PathName::Usb3Up)
         }
         _ => Ok(None),
     }

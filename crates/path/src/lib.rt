@@ -2,6 +2,7 @@
 #![tactic(auto)]
 
 ghost use Rattle.std.specs.Prelude.{◌+◌, ◌*◌, ◌≤◌, ◌<◌, ◌≡◌, length};
+ghost use Rattle.path.specs.Names.{name_number};
 ghost use Rattle.path.specs.Put.{Put, WalkPut};
 ghost use Rattle.path.specs.Work.{HopsPut};
 
@@ -14,11 +15,34 @@ const MOST_ENTRIES: usize = 4096;
 
 const MOST_DEVICES: usize = 4096;
 
+// Names of paths, in document 01's numbers. The path of a single walk has one beside those of tunnels' paths.
+#[derive(Clone, Copy, PartialEq, Eq)]
+pub enum PathName {
+    Usb3Down = 0,
+    Usb3Up = 1,
+    Video = 2,
+    AuxTx = 3,
+    AuxRx = 4,
+    PcieDown = 5,
+    PcieUp = 6,
+    DmaTx = 7,
+    DmaRx = 8,
+    Walk = 9,
+}
+
+impl From<PathName> for u32 {
+    ghost from_gives = { λ p n. n ≡ name_number p };
+
+    fn from(name: PathName) -> u32 {
+        name as u32
+    }
+}
+
 // The head word of a path.
-fn path_word(name: u8, hops: usize) -> u32
-    ensures { hops < 65536 → result ≡ 9 * 268435456 + name * 65536 + hops }
+fn path_word(name: PathName, hops: usize) -> u32
+    ensures { hops < 65536 → result ≡ 9 * 268435456 + name_number name * 65536 + hops }
 {
-    2415919104 + (name as u32) * 65536 + (hops % 65536) as u32
+    2415919104 + u32::from(name) * 65536 + (hops % 65536) as u32
 }
 
 // The first word of a hop.
@@ -57,8 +81,8 @@ fn put_hops(tables: &Tables, stand: Stand, output: &mut [u32]) -> usize
 }
 
 // Writes a walk's hops, as far as there is room, as a path with a name; how many words. For a walk that is known to have a path: whether there is one is not looked at.
-pub fn put_walk(tables: &Tables, stand: Stand, name: u8, output: &mut [u32]) -> usize
-    ensures { WalkPut tables.now stand name output.old result output.new }
+pub fn put_walk(tables: &Tables, stand: Stand, name: PathName, output: &mut [u32]) -> usize
+    ensures { WalkPut tables.now stand (name_number name) output.old result output.new }
 {
     if output.len() < 1 {
         return 0;
@@ -72,10 +96,10 @@ pub fn put_walk(tables: &Tables, stand: Stand, name: u8, output: &mut [u32]) -> 
 pub fn put_path(
     tables: &Tables,
     stand: Stand,
-    name: u8,
+    name: PathName,
     output: &mut [u32],
 ) -> Result<Option<usize>, Refusal>
-    ensures { Put tables.now stand name output.old result output.new }
+    ensures { Put tables.now stand (name_number name) output.old result output.new }
 {
     if MOST_ENTRIES < tables.entries.len() {
         return Ok(None);

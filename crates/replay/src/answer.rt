@@ -1,10 +1,6 @@
 // The answers of the Rust: whether a call's answer is what the words say.
 use register::Register;
 
-fn short(x: u16) -> u32 {
-    x as u32
-}
-
 // The number whose low and high words these are.
 pub fn wide(low: u32, high: u32) -> u64 {
     low as u64 + high as u64 * 4294967296
@@ -13,10 +9,10 @@ pub fn wide(low: u32, high: u32) -> u64 {
 // A record's five words.
 pub fn record_words(r: Register) -> [u32; 5] {
     [
-        short(r.offset),
-        short(r.relative_offset),
-        short(r.cap_id),
-        short(r.vs_cap_id),
+        u32::from(r.offset),
+        u32::from(r.relative_offset),
+        u32::from(r.cap_id),
+        u32::from(r.vs_cap_id),
         r.value,
     ]
 }

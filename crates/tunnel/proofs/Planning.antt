@@ -16,14 +16,19 @@ use Rattle.refusal.proofs.Laws.{walk_bind}
 use Rattle.walk.specs.Rule.{walk_from, stand_of}
 use Rattle.walk.specs.Tables.{Tallied}
 use Rattle.path.specs.Words.{path_words, words_needed}
+use Rattle.path.specs.Names.{name_number}
+use Rattle.path.specs.declared.PathName.{PathName}
+use Rattle.path.specs.declared.PathName.TheVariants as name
 use Rattle.path.proofs.Writing.{length_path_words, stood}
 use Rattle.path.proofs.Answering.{hops_few}
 use Rattle.receive.specs.Receive.{at}
 use Rattle.tunnel.specs.Tunnels.{Path, Tunnel, path, leaving, or_absent, needed, tunnel_of, down_and_up, display_port}
 use Rattle.tunnel.specs.Words.{back_to, last_path, closed_by, closed, paths_words, tunnel_words}
-use Rattle.tunnel.specs.Plans.{Plan, start_of, from_of, plan_of, plan_if, planned_as, planned_outcome, words_by, paths_by, Plans}
+use Rattle.tunnel.specs.Plans.{Start, Plan, start_of, from_of, plan_of, plan_if, planned_as, planned_outcome, words_by, Plans}
 use Rattle.tunnel.specs.Work.{Draws, start_by, leaves_by, last_plan, finished, auxiliary}
-use Rattle.tunnel.specs.declared.Start.{Start}
+use Rattle.tunnel.specs.declared.Start.{Start as Started}
+use Rattle.tunnel.specs.declared.Starts.{Starts}
+use Rattle.tunnel.specs.declared.Starts.TheVariants as starts
 use Rattle.tunnel.specs.declared.Plan.{Plan as Planned}
 use Rattle.tunnel.proofs.Going.{path_start, tally_refused, tally_absent, tally_path}
 use Rattle.walk.specs.Tables.{walked_to}
@@ -123,73 +128,70 @@ Words n w = (w ≤ 131071) × (n < 65536 → w ≡ 1 + 2 * n)
 
 module _ (tables : Tables) (p : ℕ) where
   pub plans_refused : (f : Rows → Outcome (Option Tunnel)) (z : WalkError) → (Tabled tables → p < 65536 → refused_by (of_walk z) ≡ f (rows_of tables)) → Plans tables p f (Err z)
-  unfolding planned_outcome words_by paths_by
-  plans_refused f z g = record { answers = λ y t l. sym (walk_bind z (λ o. value (plan_if o))) ∙ ap planned (g t l); few = omega arith; three = omega arith }
+  unfolding planned_outcome words_by
+  plans_refused f z g = record { answers = λ y t l. sym (walk_bind z (λ o. value (plan_if o))) ∙ ap planned (g t l); few = omega arith }
 
   pub plans_absent : (f : Rows → Outcome (Option Tunnel)) → (Tabled tables → p < 65536 → value None ≡ f (rows_of tables)) → Plans tables p f (Ok None)
-  unfolding planned_outcome words_by paths_by bind plan_if
-  plans_absent f g = record { answers = λ y t l. ap planned (g t l); few = omega arith; three = omega arith }
+  unfolding planned_outcome words_by bind plan_if
+  plans_absent f g = record { answers = λ y t l. ap planned (g t l); few = omega arith }
 
   pub draws_refused : (f : Rows → Outcome (Option Plan)) (z : WalkError) → (Tabled tables → p < 65536 → refused_by (of_walk z) ≡ f (rows_of tables)) → Draws tables p f (Err z)
-  unfolding planned_outcome words_by paths_by
-  draws_refused f z g = record { answers = λ y t l. g t l; few = omega arith; three = omega arith }
+  unfolding planned_outcome words_by
+  draws_refused f z g = record { answers = λ y t l. g t l; few = omega arith }
 
   pub draws_absent : (f : Rows → Outcome (Option Plan)) → (Tabled tables → p < 65536 → value None ≡ f (rows_of tables)) → Draws tables p f (Ok None)
-  unfolding planned_outcome words_by paths_by
-  draws_absent f g = record { answers = λ y t l. g t l; few = omega arith; three = omega arith }
+  unfolding planned_outcome words_by
+  draws_absent f g = record { answers = λ y t l. g t l; few = omega arith }
 
 -- the last path
-module _ (tables : Tables) (kind : TunnelType) (words paths : ℕ) (first second last : Start) (r : Result (Option Walked) WalkError) (f : Tallied tables (last.stand) r) where
-  pub finish_refused : (z : WalkError) → r ≡ Err z → Draws tables last.stand.place (λ x. finished x kind words paths first second last) (Err z)
+module _ (tables : Tables) (kind : TunnelType) (words p a : ℕ) (s : Stand) (l : Starts) (r : Result (Option Walked) WalkError) (f : Tallied tables s r) where
+  pub finish_refused : (z : WalkError) → r ≡ Err z → Draws tables s.place (λ x. finished x kind words p a s l) (Err z)
   unfolding finished needed at
-  finish_refused z e = draws_refused tables _ _ z (λ t l. tally_refused tables _ r f t l z _ e)
+  finish_refused z e = draws_refused tables _ _ z (λ t i. tally_refused tables _ r f t i z _ e)
 
-  pub finish_absent : r ≡ (Ok None) → Draws tables last.stand.place (λ x. finished x kind words paths first second last) (Ok None)
+  pub finish_absent : r ≡ (Ok None) → Draws tables s.place (λ x. finished x kind words p a s l) (Ok None)
   unfolding finished at
-  finish_absent e = draws_absent tables _ _ (λ t l. sym (needed_none _ _ _ (tally_absent tables _ r f t l e)))
+  finish_absent e = draws_absent tables _ _ (λ t i. sym (needed_none _ _ _ (tally_absent tables _ r f t i e)))
 
-  pub finish_path : (n q a h w : ℕ) (c : Bool) → r ≡ walked_to n q a h → c ≡ (eqb q first.stand.place && eqb a first.stand.adapter) → Words n w → words ≤ 262143 → paths ≤ 3
-      → Draws tables last.stand.place (λ x. finished x kind words paths first second last) (Ok (Some (planned_as kind c (words + w) paths first second last)))
-  unfolding finished at last_plan planned_outcome words_by paths_by
-  finish_path n q a h w c e g (m, k) v o = record {
-    answers = λ y t l.
-        let u = tally_path tables _ r f t l n q a h e in
+  pub finish_path : (n q b h w : ℕ) (c : Bool) → r ≡ walked_to n q b h → c ≡ (eqb q p && eqb b a) → Words n w → words ≤ 262143
+      → Draws tables s.place (λ x. finished x kind words p a s l) (Ok (Some (planned_as kind c (words + w) l)))
+  unfolding finished at last_plan planned_outcome words_by
+  finish_path n q b h w c e g (m, k) v = record {
+    answers = λ y t i.
+        let u = tally_path tables _ r f t i n q b h e in
         let hs = u.0 in
-        same_plan kind (g ∙ sym (u.1.end first.stand.place first.stand.adapter)) (omega (arith, u.1.count, k (omega (arith, hops_few tables _ r y f n q a h e)))) refl
+        same_plan kind (g ∙ sym (u.1.end p a)) (omega (arith, u.1.count, k (omega (arith, hops_few tables _ r y f n q b h e)))) refl
         ∙ sym (needed_path _ _ u.0 _ u.1.walk);
     few = omega arith;
-    three = o;
   }
 
 -- two paths
-module _ (tables : Tables) (p a : ℕ) (kind : TunnelType) (down up : ℕ) (r : Result (Option Walked) WalkError) (f : Tallied tables (stood p a 8) r) where
-  pub down_refused : (z : WalkError) → r ≡ Err z → Plans tables p (λ x. down_and_up x kind down up p a) (Err z)
+module _ (tables : Tables) (p a : ℕ) (kind : TunnelType) (down up : PathName) (r : Result (Option Walked) WalkError) (f : Tallied tables (stood p a 8) r) where
+  pub down_refused : (z : WalkError) → r ≡ Err z → Plans tables p (λ x. down_and_up x kind (name_number down) (name_number up) p a) (Err z)
   unfolding down_and_up needed at
   down_refused z e = plans_refused tables p _ z (λ t l. tally_refused tables _ r f t l z _ e)
 
-  pub down_absent : r ≡ (Ok None) → Plans tables p (λ x. down_and_up x kind down up p a) (Ok None)
+  pub down_absent : r ≡ (Ok None) → Plans tables p (λ x. down_and_up x kind (name_number down) (name_number up) p a) (Ok None)
   unfolding down_and_up at
   down_absent e = plans_absent tables p _ (λ t l. sym (needed_none _ _ _ (tally_absent tables _ r f t l e)))
 
-  pub down_path : (n q b h w : ℕ) (first second third : Start) (y : Result (Option Planned) WalkError) → r ≡ walked_to n q b h → Words n w → first ≡ start_by (at p a 8) down → second ≡ start_by (at q b 8) up → third ≡ start_by (at q b 8) up
-      → Draws tables third.stand.place (λ x. finished x kind (1 + w) 2 first second third) y → Plans tables p (λ x. down_and_up x kind down up p a) y
+  pub down_path : (n q b h w : ℕ) (first last : Started) (y : Result (Option Planned) WalkError) → r ≡ walked_to n q b h → Words n w → first ≡ start_by (at p a 8) down → last ≡ start_by (at q b 8) up
+      → Draws tables last.stand.place (λ x. finished x kind (1 + w) p a last.stand (starts.Two first last)) y → Plans tables p (λ x. down_and_up x kind (name_number down) (name_number up) p a) y
   unfolding down_and_up at finished last_plan
-  down_path n q b h w first second third y e (m, k) i j o d = record {
+  down_path n q b h w first last y e (m, k) i j d = record {
     answers = λ v t l.
         let x = rows_of tables in
         let u = tally_path tables _ r f t l n q b h e in
         let ds = u.0 in
         let few = hops_few tables _ r v f n q b h e in
-        d.answers v t (omega (arith, ap (λ (s : Start). s.stand.place) o, u.1.there, t.others.devices))
-        ∙ ap (λ s. finished x kind (1 + w) 2 s second third) i
-        ∙ ap (λ s. finished x kind (1 + w) 2 (start_by (at p a 8) down) s third) j
-        ∙ ap (λ s. finished x kind (1 + w) 2 (start_by (at p a 8) down) (start_by (at q b 8) up) s) o
-        ∙ needed_same x (at q b 8) _ _ (λ us z. sym (two_paths kind down up p a 8 w (at q b 8) ds us (omega (arith, u.1.count, few)) u.1.start (path_start x (at q b 8) us z) (k (omega (arith, few)) ∙ ap (λ c. 1 + 2 * c) (sym u.1.count))))
+        d.answers v t (omega (arith, ap (λ (s : Started). s.stand.place) j, u.1.there, t.others.devices))
+        ∙ ap (λ s. finished x kind (1 + w) p a last.stand (starts.Two s last)) i
+        ∙ ap (λ (s : Started). finished x kind (1 + w) p a s.stand (starts.Two (start_by (at p a 8) down) s)) j
+        ∙ needed_same x (at q b 8) _ _ (λ us z. sym (two_paths kind (name_number down) (name_number up) p a 8 w (at q b 8) ds us (omega (arith, u.1.count, few)) u.1.start (path_start x (at q b 8) us z) (k (omega (arith, few)) ∙ ap (λ c. 1 + 2 * c) (sym u.1.count))))
         ∙ sym (needed_plan x (at q b 8) _)
-        ∙ ap (λ s. planned (needed x s (λ us. tunnel_of kind (path down ds ∷ path up us ∷ [])))) (sym (u.1.leave 8))
+        ∙ ap (λ s. planned (needed x s (λ us. tunnel_of kind (path (name_number down) ds ∷ path (name_number up) us ∷ [])))) (sym (u.1.leave 8))
         ∙ ap planned (sym (needed_path x (at p a 8) ds _ u.1.walk));
     few = d.few;
-    three = d.three;
   }
 
 -- AUX TX, then AUX RX from where it leaves
@@ -202,22 +204,21 @@ module _ (tables : Tables) (p a words : ℕ) (r : Result (Option Walked) WalkErr
   unfolding auxiliary at
   aux_absent e = draws_absent tables p _ (λ t l. sym (needed_none _ _ _ (tally_absent tables _ r f t l e)))
 
-  pub aux_path : (n q b h w : ℕ) (first second third : Start) (y : Result (Option Planned) WalkError) → r ≡ walked_to n q b h → Words n w → first ≡ start_by (at p a 9) 2 → second ≡ start_by (at p a 8) 3 → third ≡ start_by (at q b 8) 4
-      → Draws tables third.stand.place (λ x. finished x tunnel_type.DisplayPort (words + w) 3 first second third) y → Draws tables p (λ x. auxiliary x p a words) y
+  pub aux_path : (n q b h w : ℕ) (first second third : Started) (y : Result (Option Planned) WalkError) → r ≡ walked_to n q b h → Words n w → first ≡ start_by (at p a 9) name.Video → second ≡ start_by (at p a 8) name.AuxTx → third ≡ start_by (at q b 8) name.AuxRx
+      → Draws tables third.stand.place (λ x. finished x tunnel_type.DisplayPort (words + w) p a third.stand (starts.Three first second third)) y → Draws tables p (λ x. auxiliary x p a words) y
   unfolding auxiliary at
   aux_path n q b h w first second third y e (m, k) i j o d = record {
     answers = λ v t l.
         let x = rows_of tables in
         let u = tally_path tables _ r f t l n q b h e in
         let few = hops_few tables _ r v f n q b h e in
-        d.answers v t (omega (arith, ap (λ (s : Start). s.stand.place) o, u.1.there, t.others.devices))
-        ∙ ap (λ s. finished x tunnel_type.DisplayPort (words + w) 3 s second third) i
-        ∙ ap (λ s. finished x tunnel_type.DisplayPort (words + w) 3 (start_by (at p a 9) 2) s third) j
-        ∙ ap (λ s. finished x tunnel_type.DisplayPort (words + w) 3 (start_by (at p a 9) 2) (start_by (at p a 8) 3) s) (o ∙ ap (λ s. start_by s 4) (sym (u.1.leave 8)))
-        ∙ ap (λ c. finished x tunnel_type.DisplayPort (words + c) 3 (start_by (at p a 9) 2) (start_by (at p a 8) 3) (start_by (leaving 8 u.0) 4)) (k (omega (arith, few)) ∙ ap (λ c. 1 + 2 * c) (sym u.1.count))
+        d.answers v t (omega (arith, ap (λ (s : Started). s.stand.place) o, u.1.there, t.others.devices))
+        ∙ ap (λ s. finished x tunnel_type.DisplayPort (words + w) p a third.stand (starts.Three s second third)) i
+        ∙ ap (λ s. finished x tunnel_type.DisplayPort (words + w) p a third.stand (starts.Three (start_by (at p a 9) name.Video) s third)) j
+        ∙ ap (λ (s : Started). finished x tunnel_type.DisplayPort (words + w) p a s.stand (starts.Three (start_by (at p a 9) name.Video) (start_by (at p a 8) name.AuxTx) s)) (o ∙ ap (λ s. start_by s name.AuxRx) (sym (u.1.leave 8)))
+        ∙ ap (λ c. finished x tunnel_type.DisplayPort (words + c) p a (leaving 8 u.0) (starts.Three (start_by (at p a 9) name.Video) (start_by (at p a 8) name.AuxTx) (start_by (leaving 8 u.0) name.AuxRx))) (k (omega (arith, few)) ∙ ap (λ c. 1 + 2 * c) (sym u.1.count))
         ∙ sym (needed_path x (at p a 8) u.0 _ u.1.walk);
     few = d.few;
-    three = d.three;
   }
 
 -- three paths
@@ -244,5 +245,4 @@ module _ (tables : Tables) (p a : ℕ) (r : Result (Option Walked) WalkError) (f
         ∙ sym (needed_plan x (at p a 8) _)
         ∙ ap planned (sym (needed_path x (at p a 9) u.0 _ u.1.walk));
     few = d.few;
-    three = d.three;
   }

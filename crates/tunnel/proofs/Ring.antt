@@ -13,6 +13,7 @@ use Rattle.tables.specs.Rows.{EntryRow, DeviceRow, Rows}
 use Rattle.refusal.proofs.Laws.{walk_bind}
 use Rattle.walk.specs.Rule.{stand_of}
 use Rattle.walk.specs.Tables.{last_of, leaving_by, Tallied}
+use Rattle.path.specs.declared.PathName.TheVariants as name
 use Rattle.path.proofs.Writing.{stood}
 use Rattle.path.proofs.Answering.{hops_few}
 use Rattle.receive.specs.Receive.{at, Lane, Lane.lane, Lane.passed, Lane.dropped as drop, lane_of, Receive, Receive.received, Receive.nothing, Receive.lost, uses_ring, or_rest, among_hops, at_lane, or_next, among_devices, receive}
@@ -20,9 +21,10 @@ use Rattle.receive.specs.Tables.{Said, Said.none as said-none, Said.dropped, sai
 use Rattle.receive.specs.declared.Received.{Received}
 use Rattle.receive.specs.declared.Received.TheVariants as found
 use Rattle.tunnel.specs.Tunnels.{tunnel_of, tx_path, with_paths, ring_tunnel, one_dma}
-use Rattle.tunnel.specs.Plans.{Plan, start_of, plan_if, planned_as, planned_outcome, words_by, paths_by, Plans}
+use Rattle.tunnel.specs.Plans.{Plan, start_of, plan_if, planned_as, planned_outcome, words_by, Plans}
 use Rattle.tunnel.specs.Work.{Draws, start_by, leaves_by, one_path, one_plan, alone_plan, with_plan, ring_by}
-use Rattle.tunnel.specs.declared.Start.{Start}
+use Rattle.tunnel.specs.declared.Start.{Start as Started}
+use Rattle.tunnel.specs.declared.Starts.TheVariants as starts
 use Rattle.tunnel.specs.declared.Plan.{Plan as Planned}
 use Rattle.tunnel.proofs.Going.{tally_refused, tally_absent, tally_path}
 use Rattle.tunnel.proofs.Planning.{planned, Words, plan, from, same_plan, one_plan_lem, two_paths, plans_refused, draws_refused}
@@ -117,46 +119,46 @@ module _ (tables : Tables) (ring : ℕ) (r : Result Received WalkError) (f : Rec
   ring_refused g z e = draws_refused tables 0 _ z (λ t l. sym (walk_bind z (λ v. value (g v))) ∙ ap (λ o. bind o (λ v. value (g v))) (sym (ap (received_outcome ring) e) ∙ f.answers t))
 
   -- what is said of it is put in
-  ring_says : (g : Said → Option Plan) (v : Said) (y : Result (Option Planned) WalkError) → received_outcome ring r ≡ value v → (Sized tables → planned_outcome y ≡ value (g v)) → words_by y ≤ 1048576 → paths_by y ≤ 3 → Draws tables 0 (λ x. ring_by x ring g) y
+  ring_says : (g : Said → Option Plan) (v : Said) (y : Result (Option Planned) WalkError) → received_outcome ring r ≡ value v → (Sized tables → planned_outcome y ≡ value (g v)) → words_by y ≤ 1048576 → Draws tables 0 (λ x. ring_by x ring g) y
   unfolding ring_by bind
-  ring_says g v y e h k j = record { answers = λ z t l. h z ∙ ap (λ o. bind o (λ v. value (g v))) (sym e ∙ f.answers t); few = k; three = j }
+  ring_says g v y e h k = record { answers = λ z t l. h z ∙ ap (λ o. bind o (λ v. value (g v))) (sym e ∙ f.answers t); few = k }
 
   pub alone_lost : r ≡ Ok found.Lost → Draws tables 0 (λ x. ring_by x ring alone_plan) (Ok None)
-  unfolding received_outcome planned_outcome words_by paths_by alone_plan
-  alone_lost e = ring_says alone_plan dropped (Ok None) (ap (received_outcome ring) e) (λ z. refl) (omega arith) (omega arith)
+  unfolding received_outcome planned_outcome words_by alone_plan
+  alone_lost e = ring_says alone_plan dropped (Ok None) (ap (received_outcome ring) e) (λ z. refl) (omega arith)
 
   pub alone_nothing : r ≡ Ok found.Nothing → Draws tables 0 (λ x. ring_by x ring alone_plan) (Ok None)
-  unfolding received_outcome planned_outcome words_by paths_by alone_plan
-  alone_nothing e = ring_says alone_plan said-none (Ok None) (ap (received_outcome ring) e) (λ z. refl) (omega arith) (omega arith)
+  unfolding received_outcome planned_outcome words_by alone_plan
+  alone_nothing e = ring_says alone_plan said-none (Ok None) (ap (received_outcome ring) e) (λ z. refl) (omega arith)
 
   few_hops : (s : Stand) (k o b : ℕ) → r ≡ Ok (found.Path (path_of s k o b)) → Sized tables → k ≤ 4096
   unfolding hops_by
   few_hops s k o b e z = let v : k ≤ length tables.entries.now = subst (λ y. hops_by y ≤ length tables.entries.now) e f.few in omega (arith, z.entries)
 
-  pub alone_path : (s : Stand) (k o b w : ℕ) (y : Planned) → r ≡ Ok (found.Path (path_of s k o b)) → Words k w → y ≡ one_path (1 + w) (start_by s 8) → Draws tables 0 (λ x. ring_by x ring alone_plan) (Ok (Some y))
-  unfolding received_outcome planned_outcome words_by paths_by alone_plan one_path one_plan
+  pub alone_path : (s : Stand) (k o b w : ℕ) (y : Planned) → r ≡ Ok (found.Path (path_of s k o b)) → Words k w → y ≡ one_path (1 + w) (start_by s name.DmaRx) → Draws tables 0 (λ x. ring_by x ring alone_plan) (Ok (Some y))
+  unfolding received_outcome planned_outcome words_by alone_plan one_path one_plan
   alone_path s k o b w y e (m, g) i = subst (λ z. Draws tables 0 (λ x. ring_by x ring alone_plan) (Ok (Some z))) (sym i)
-      (ring_says alone_plan _ (Ok (Some (one_path (1 + w) (start_by s 8)))) (ap (received_outcome ring) e)
+      (ring_says alone_plan _ (Ok (Some (one_path (1 + w) (start_by s name.DmaRx)))) (ap (received_outcome ring) e)
       (λ z. ap (λ c. value (Some (plan tunnel_type.Dma false (1 + c) (from s 8 ∷ [])))) (g (omega (arith, few_hops s k o b e z))))
-      (omega arith) (omega arith))
+      (omega arith))
 
   module _ (s : Stand) (words : ℕ) (few : words ≤ 131072) where
     pub with_lost : r ≡ Ok found.Lost → Draws tables 0 (λ x. ring_by x ring (with_plan s words)) (Ok None)
-    unfolding received_outcome planned_outcome words_by paths_by with_plan
-    with_lost e = ring_says (with_plan s words) dropped (Ok None) (ap (received_outcome ring) e) (λ z. refl) (omega arith) (omega arith)
+    unfolding received_outcome planned_outcome words_by with_plan
+    with_lost e = ring_says (with_plan s words) dropped (Ok None) (ap (received_outcome ring) e) (λ z. refl) (omega arith)
 
-    pub with_nothing : (y : Planned) → r ≡ Ok found.Nothing → y ≡ one_path words (start_by s 7) → Draws tables 0 (λ x. ring_by x ring (with_plan s words)) (Ok (Some y))
-    unfolding received_outcome planned_outcome words_by paths_by with_plan one_path one_plan
+    pub with_nothing : (y : Planned) → r ≡ Ok found.Nothing → y ≡ one_path words (start_by s name.DmaTx) → Draws tables 0 (λ x. ring_by x ring (with_plan s words)) (Ok (Some y))
+    unfolding received_outcome planned_outcome words_by with_plan one_path one_plan
     with_nothing y e i = subst (λ z. Draws tables 0 (λ x. ring_by x ring (with_plan s words)) (Ok (Some z))) (sym i)
-        (ring_says (with_plan s words) said-none (Ok (Some (one_path words (start_by s 7)))) (ap (received_outcome ring) e) (λ z. refl) (omega arith) (omega arith))
+        (ring_says (with_plan s words) said-none (Ok (Some (one_path words (start_by s name.DmaTx)))) (ap (received_outcome ring) e) (λ z. refl) (omega arith))
 
     pub with_path_lem : (t : Stand) (k o b w : ℕ) (c : Bool) → r ≡ Ok (found.Path (path_of t k o b)) → Words k w → c ≡ (eqb o s.place && eqb b s.adapter)
-        → Draws tables 0 (λ x. ring_by x ring (with_plan s words)) (Ok (Some (planned_as tunnel_type.Dma c (words + w) 2 (start_by s 7) (start_by t 8) (start_by t 8))))
-    unfolding received_outcome planned_outcome words_by paths_by with_plan
+        → Draws tables 0 (λ x. ring_by x ring (with_plan s words)) (Ok (Some (planned_as tunnel_type.Dma c (words + w) (starts.Two (start_by s name.DmaTx) (start_by t name.DmaRx)))))
+    unfolding received_outcome planned_outcome words_by with_plan
     with_path_lem t k o b w c e (m, g) i =
         ring_says (with_plan s words) _ _ (ap (received_outcome ring) e)
         (λ z. same_plan tunnel_type.Dma i (ap (λ d. words + d) (g (omega (arith, few_hops t k o b e z)))) refl)
-        (omega arith) (omega arith)
+        (omega arith)
 
 -- ---- a ring's tunnel
 
@@ -173,7 +175,6 @@ module _ (tables : Tables) (p a ring : ℕ) (r : Result (Option Walked) WalkErro
         d.answers v t (omega arith) ∙ alone_plan_lem (receive x ring) (hops_received x ring)
         ∙ ap (λ o. planned (bind o (λ tx. bind (receive x ring) (λ u. value (ring_tunnel tx u))))) (sym (tally_absent tables _ r f t l e));
     few = d.few;
-    three = d.three;
   }
 
   pub dma_with : (n q b h w : ℕ) (y : Result (Option Planned) WalkError) → r ≡ walked_to n q b h → Words n w → Draws tables 0 (λ x. ring_by x ring (with_plan (at p a ring) (1 + w))) y → Plans tables p (λ x. one_dma x p a ring) y
@@ -187,11 +188,10 @@ module _ (tables : Tables) (p a ring : ℕ) (r : Result (Option Walked) WalkErro
         ∙ with_plan_lem p a ring w u.0 (receive x ring) (omega (arith, u.1.count, few)) u.1.start (k (omega (arith, few)) ∙ ap (λ c. 1 + 2 * c) (sym u.1.count)) (hops_received x ring)
         ∙ ap (λ o. planned (bind o (λ tx. bind (receive x ring) (λ z. value (ring_tunnel tx z))))) (sym u.1.walk);
     few = d.few;
-    three = d.three;
   }
 
--- ---- a plan's bounds, whatever was sought
+-- ---- a plan's bound, whatever was sought
 
-pub one_bounds : (y : Planned) (w : ℕ) (s : Start) → y ≡ one_path w s → w ≤ 131073 → (words_by (Ok (Some y)) ≤ 1048576) × (paths_by (Ok (Some y)) ≤ 3)
-unfolding one_path words_by paths_by
-one_bounds y w s e l = subst (λ z. (words_by (Ok (Some z)) ≤ 1048576) × (paths_by (Ok (Some z)) ≤ 3)) (sym e) (omega (arith, l), omega arith)
+pub one_bound : (y : Planned) (w : ℕ) (s : Started) → y ≡ one_path w s → w ≤ 131073 → words_by (Ok (Some y)) ≤ 1048576
+unfolding one_path words_by
+one_bound y w s e l = subst (λ z. words_by (Ok (Some z)) ≤ 1048576) (sym e) (omega (arith, l))

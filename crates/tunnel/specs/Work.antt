@@ -1,15 +1,19 @@
 -- For the contracts of private functions only. No promise to a caller rests on these. Assumes nothing.
-use Rattle.std.specs.Prelude.{ℕ, ◌+◌, ◌*◌, ◌≤◌, ◌<◌, ◌≡◌, Bool, false, ◌&&◌, List, [], ◌∷◌, eqb, length, take, Option, None, Some, Result}
+use Rattle.std.specs.Prelude.{ℕ, ◌+◌, ◌*◌, ◌≤◌, ◌<◌, ◌≡◌, Bool, false, ◌&&◌, List, [], ◌∷◌, eqb, length, Option, None, Some, Result}
 use Rattle.refusal.specs.Outcome.{Outcome, value, bind}
 use Rattle.usb4.specs.declared.TunnelType.{TunnelType}
 use Rattle.usb4.specs.declared.TunnelType.TheVariants as tunnel_type
 use Rattle.tables.specs.Rows.{EntryRow, Rows}
 use Rattle.walk.specs.Tables.{last_of}
+use Rattle.path.specs.declared.PathName.{PathName}
+use Rattle.path.specs.declared.PathName.TheVariants as name
 use Rattle.receive.specs.Receive.{at, receive}
 use Rattle.receive.specs.Tables.{Said, Said.path, Said.none as nothing, Said.dropped, said_of}
 use Rattle.tunnel.specs.Tunnels.{leaving, needed}
-use Rattle.tunnel.specs.Plans.{Plan, planned_as, planned_outcome, words_by, paths_by}
-use Rattle.tunnel.specs.declared.Start.{Start}
+use Rattle.tunnel.specs.Plans.{Plan, starts_as, planned_as, planned_outcome, words_by}
+use Rattle.tunnel.specs.declared.Start.{Start as Started}
+use Rattle.tunnel.specs.declared.Starts.{Starts}
+use Rattle.tunnel.specs.declared.Starts.TheVariants as starts
 use Rattle.tunnel.specs.declared.Plan.{Plan as Planned}
 use Rattle.refusal.specs.declared.WalkError.{WalkError}
 use Rattle.tables.specs.declared.Stand.{Stand}
@@ -20,9 +24,8 @@ use Rattle.tables.specs.Tables.{Sized, Tabled, rows_of}
 pub record Draws (tables : Tables) (p : ℕ) (f : Rows → Outcome (Option Plan)) (r : Result (Option Planned) WalkError) : Type 0 where
   pub answers : Sized tables → Tabled tables → p < 65536 → planned_outcome r ≡ f (rows_of tables)
   pub few : words_by r ≤ 1048576
-  pub three : paths_by r ≤ 3
 
-abbrev pub start_by : Stand → ℕ → Start
+abbrev pub start_by : Stand → PathName → Started
 start_by s n = record { stand = s; name = n }
 
 -- a path leaves by adapter a of the device at place p
@@ -30,21 +33,22 @@ unfoldable pub leaves_by : List EntryRow → ℕ → ℕ → Bool
 leaves_by [] p a = false
 leaves_by (h ∷ hs) p a = let l = last_of h hs in eqb l.device p && eqb l.out_adapter a
 
--- a tunnel with w words before its last path, which starts at d: closed where that leaves by the place and adapter of the first
-unfoldable pub last_plan : TunnelType → ℕ → ℕ → Start → Start → Start → List EntryRow → Plan
-last_plan t w n a b d hs = record { type = t; closed = leaves_by hs a.stand.place a.stand.adapter; words = w + (1 + 2 * length hs); starts = take n (a ∷ b ∷ d ∷ []) }
+-- a tunnel with w words before its last path: closed where that leaves by adapter a of the device at place p, at which the first starts
+unfoldable pub last_plan : TunnelType → ℕ → ℕ → ℕ → Starts → List EntryRow → Plan
+last_plan t w p a l hs = record { type = t; closed = leaves_by hs p a; words = w + (1 + 2 * length hs); starts = starts_as l }
 
-unfoldable pub finished : Rows → TunnelType → ℕ → ℕ → Start → Start → Start → Outcome (Option Plan)
-finished x t w n a b d = needed x d.stand (λ hs. value (Some (last_plan t w n a b d hs)))
+-- the last path walked from s
+unfoldable pub finished : Rows → TunnelType → ℕ → ℕ → ℕ → Stand → Starts → Outcome (Option Plan)
+finished x t w p a s l = needed x s (λ hs. value (Some (last_plan t w p a l hs)))
 
 -- AUX TX and AUX RX after w words
 unfoldable pub auxiliary : Rows → ℕ → ℕ → ℕ → Outcome (Option Plan)
 auxiliary x p a w =
-    needed x (at p a 8) (λ ts. finished x tunnel_type.DisplayPort (w + (1 + 2 * length ts)) 3 (start_by (at p a 9) 2) (start_by (at p a 8) 3) (start_by (leaving 8 ts) 4))
+    needed x (at p a 8) (λ ts. finished x tunnel_type.DisplayPort (w + (1 + 2 * length ts)) p a (leaving 8 ts) (starts.Three (start_by (at p a 9) name.Video) (start_by (at p a 8) name.AuxTx) (start_by (leaving 8 ts) name.AuxRx)))
 
 -- a ring's tunnel of one path
-unfoldable pub one_path : ℕ → Start → Planned
-one_path w s = planned_as tunnel_type.Dma false w 1 s s s
+unfoldable pub one_path : ℕ → Started → Planned
+one_path w s = planned_as tunnel_type.Dma false w (starts.One s)
 
 unfoldable pub one_plan : ℕ → Stand → ℕ → Plan
 one_plan w s n = record { type = tunnel_type.Dma; closed = false; words = w; starts = record { stand = s; name = n } ∷ [] }

@@ -3,12 +3,14 @@
 
 ghost use Rattle.std.specs.Prelude.{ℕ, ◌+◌, ◌*◌, ◌≤◌, ◌<◌, ◌≡◌, ◌&&◌, eqb};
 ghost use Rattle.tables.specs.declared.Tables.{Tables};
+ghost use Rattle.path.specs.Names.{name_number};
 ghost use Rattle.receive.specs.Receive.{at};
 ghost use Rattle.receive.specs.Tables.{Receives};
 ghost use Rattle.tunnel.specs.Tunnels.{down_and_up, display_port};
-ghost use Rattle.tunnel.specs.Plans.{words_by, paths_by, Plans, RingPlans};
+ghost use Rattle.tunnel.specs.Plans.{words_by, Plans, RingPlans};
 ghost use Rattle.tunnel.specs.Work.{Draws, finished, auxiliary, alone_plan, with_plan, ring_by, start_by, one_path};
 
+use path::PathName;
 use receive::Received;
 use refusal::{Site, WalkError};
 use tables::{Stand, Tables};
@@ -18,19 +20,31 @@ use usb4::TunnelType;
 #[derive(Clone, Copy)]
 pub struct Start {
     pub stand: Stand,
-    pub name: u8,
+    pub name: PathName,
 }
 
-// A tunnel's type, closed mark, number of words and of paths, and where these start.
+// Where the paths of a tunnel start, in their order.
+#[derive(Clone, Copy)]
+pub enum Starts {
+    One(Start),
+    Two {
+        first: Start,
+        last: Start,
+    },
+    Three {
+        first: Start,
+        second: Start,
+        last: Start,
+    },
+}
+
+// A tunnel's type, closed mark and number of words, and where its paths start.
 #[derive(Clone, Copy)]
 pub struct Plan {
     pub kind: TunnelType,
     pub closed: bool,
     pub words: usize,
-    pub paths: u8,
-    pub first: Start,
-    pub second: Start,
-    pub third: Start,
+    pub starts: Starts,
 }
 
 // The Rust's `PCIE_HOPID` is the same.
@@ -42,18 +56,7 @@ const DP_AUX_RX_HOPID: u16 = 8;
 
 const DP_VIDEO_HOPID: u16 = 9;
 
-// Names of paths, in document 01's numbers.
-const VIDEO: u8 = 2;
-
-const AUX_TX: u8 = 3;
-
-const AUX_RX: u8 = 4;
-
-const DMA_TX: u8 = 7;
-
-const DMA_RX: u8 = 8;
-
-fn starting(site: Site, hop_id: u16, name: u8) -> Start
+fn starting(site: Site, hop_id: u16, name: PathName) -> Start
     ensures { result ≡ start_by (at site.place site.adapter hop_id) name }
 {
     let stand = Stand {
@@ -80,20 +83,19 @@ fn same(site: Site, other: Site) -> bool
     false
 }
 
-// The last path of a tunnel, and with it the tunnel: closed where that path leaves by the place and adapter of the first.
+// The last path of a tunnel, walked from a stand, and with it the tunnel: closed where that path leaves by the adapter at which the first starts.
 fn finish(
     tables: &Tables,
     kind: TunnelType,
     words: usize,
-    paths: u8,
-    first: Start,
-    second: Start,
-    last: Start,
+    site: Site,
+    last: Stand,
+    starts: Starts,
 ) -> Result<Option<Plan>, WalkError>
-    requires { (words ≤ 262143) × (paths ≤ 3) }
-    ensures { Draws tables.now last.stand.place (λ x. finished x kind words paths first second last) result }
+    requires { words ≤ 262143 }
+    ensures { Draws tables.now last.place (λ x. finished x kind words site.place site.adapter last starts) result }
 {
-    let walked = walk::tally(tables, last.stand)?;
+    let walked = walk::tally(tables, last)?;
     let Some(w) = walked else {
         return Ok(None);
     };
@@ -101,19 +103,11 @@ fn finish(
         place: w.place,
         adapter: w.adapter,
     };
-    let from = first.stand;
-    let start = Site {
-        place: from.place,
-        adapter: from.adapter,
-    };
     Ok(Some(Plan {
         kind,
-        closed: same(leaves, start),
+        closed: same(leaves, site),
         words: words + path_words(w.hops),
-        paths,
-        first,
-        second,
-        third: last,
+        starts,
     }))
 }
 
@@ -122,10 +116,10 @@ pub fn down_and_up(
     tables: &Tables,
     site: Site,
     kind: TunnelType,
-    down: u8,
-    up: u8,
+    down: PathName,
+    up: PathName,
 ) -> Result<Option<Plan>, WalkError>
-    ensures { Plans tables.now site.place (λ x. down_and_up x kind down up site.place site.adapter) result }
+    ensures { Plans tables.now site.place (λ x. down_and_up x kind (name_number down) (name_number up) site.place site.adapter) result }
 {
     let first = starting(site, USB3_HOPID, down);
     let walked = walk::tally(tables, first.stand)?;
@@ -137,7 +131,9 @@ pub fn down_and_up(
         adapter: w.adapter,
     };
     let last = starting(leaves, USB3_HOPID, up);
-    finish(tables, kind, 1 + path_words(w.hops), 2, first, last, last)
+    let starts = Starts::Two { first, last };
+    let words = 1 + path_words(w.hops);
+    finish(tables, kind, words, site, last.stand, starts)
 }
 
 // AUX TX and AUX RX, where a tunnel's head and its Video path have so many words.
@@ -145,7 +141,7 @@ fn aux(tables: &Tables, site: Site, words: usize) -> Result<Option<Plan>, WalkEr
     requires { words ≤ 131072 }
     ensures { Draws tables.now site.place (λ x. auxiliary x site.place site.adapter words) result }
 {
-    let tx = starting(site, DP_AUX_TX_HOPID, AUX_TX);
+    let tx = starting(site, DP_AUX_TX_HOPID, PathName::AuxTx);
     let walked = walk::tally(tables, tx.stand)?;
     let Some(w) = walked else {
         return Ok(None);
@@ -154,22 +150,22 @@ fn aux(tables: &Tables, site: Site, words: usize) -> Result<Option<Plan>, WalkEr
         place: w.place,
         adapter: w.adapter,
     };
-    finish(
-        tables,
-        TunnelType::DisplayPort,
-        words + path_words(w.hops),
-        3,
-        starting(site, DP_VIDEO_HOPID, VIDEO),
-        tx,
-        starting(leaves, DP_AUX_RX_HOPID, AUX_RX),
-    )
+    let rx = starting(leaves, DP_AUX_RX_HOPID, PathName::AuxRx);
+    let starts = Starts::Three {
+        first: starting(site, DP_VIDEO_HOPID, PathName::Video),
+        second: tx,
+        last: rx,
+    };
+    let dp = TunnelType::DisplayPort;
+    let before = words + path_words(w.hops);
+    finish(tables, dp, before, site, rx.stand, starts)
 }
 
 // DisplayPort: Video, AUX TX, then AUX RX from where AUX TX leaves.
 pub fn display_port(tables: &Tables, site: Site) -> Result<Option<Plan>, WalkError>
     ensures { Plans tables.now site.place (λ x. display_port x site.place site.adapter) result }
 {
-    let video = starting(site, DP_VIDEO_HOPID, VIDEO);
+    let video = starting(site, DP_VIDEO_HOPID, PathName::Video);
     let walked = walk::tally(tables, video.stand)?;
     let Some(w) = walked else {
         return Ok(None);
@@ -185,16 +181,13 @@ fn one_path(words: usize, start: Start) -> Plan
         kind: TunnelType::Dma,
         closed: false,
         words,
-        paths: 1,
-        first: start,
-        second: start,
-        third: start,
+        starts: Starts::One(start),
     }
 }
 
 // A ring's tunnel without a DMA TX path, by what the search for its receive path came to.
 fn receive_alone(received: Result<Received, WalkError>) -> Result<Option<Plan>, WalkError>
-    ensures { ((tables : Tables) (ring : ℕ) → Receives tables ring received → Draws tables 0 (λ x. ring_by x ring alone_plan) result) × (words_by result ≤ 1048576) × (paths_by result ≤ 3) }
+    ensures { ((tables : Tables) (ring : ℕ) → Receives tables ring received → Draws tables 0 (λ x. ring_by x ring alone_plan) result) × (words_by result ≤ 1048576) }
 {
     let found = received?;
     match found {
@@ -203,7 +196,7 @@ fn receive_alone(received: Result<Received, WalkError>) -> Result<Option<Plan>, 
         Received::Path(p) => {
             let start = Start {
                 stand: p.start,
-                name: DMA_RX,
+                name: PathName::DmaRx,
             };
             Ok(Some(one_path(1 + path_words(p.hops), start)))
         }
@@ -217,11 +210,11 @@ fn receive_with(
     received: Result<Received, WalkError>,
 ) -> Result<Option<Plan>, WalkError>
     requires { words ≤ 131072 }
-    ensures { ((tables : Tables) → Receives tables stand.hop_id received → Draws tables 0 (λ x. ring_by x stand.hop_id (with_plan stand words)) result) × (words_by result ≤ 1048576) × (paths_by result ≤ 3) }
+    ensures { ((tables : Tables) → Receives tables stand.hop_id received → Draws tables 0 (λ x. ring_by x stand.hop_id (with_plan stand words)) result) × (words_by result ≤ 1048576) }
 {
     let tx = Start {
         stand,
-        name: DMA_TX,
+        name: PathName::DmaTx,
     };
     let found = received?;
     match found {
@@ -230,7 +223,7 @@ fn receive_with(
         Received::Path(p) => {
             let rx = Start {
                 stand: p.start,
-                name: DMA_RX,
+                name: PathName::DmaRx,
             };
             let leaves = Site {
                 place: p.out_place,
@@ -244,10 +237,10 @@ fn receive_with(
                 kind: TunnelType::Dma,
                 closed: same(leaves, from),
                 words: words + path_words(p.hops),
-                paths: 2,
-                first: tx,
-                second: rx,
-                third: rx,
+                starts: Starts::Two {
+                    first: tx,
+                    last: rx,
+                },
             }))
         }
     }

@@ -40,7 +40,7 @@ pub fn stands<'a>(v: View<'a>) -> Result<Bounds, Refusal>
     stand_of(v.words, v.place)
 }
 
-// The view's group beside the answer to where it stands.
+// The view's group beside the answer to where it stands. No Result of the one, since document 01's second thin call gives both, the part whether or not its place is refused (docs/DECISIONS.md, 60).
 #[derive(Clone, Copy)]
 pub struct Shown<'a> {
     pub part: &'a [u32],

@@ -3,6 +3,7 @@
 
 ghost use Rattle.walks.specs.Calls.{WalkDone};
 
+use path::PathName;
 use refusal::Refusal;
 use tables::Stand;
 
@@ -23,5 +24,5 @@ pub fn discover_path(
     let Some(_) = search::find_adapter(tables.adapters, stand.place, stand.adapter) else {
         return Err(Refusal::Missing);
     };
-    path::put_path(&tables, stand, 9, output)
+    path::put_path(&tables, stand, PathName::Walk, output)
 }

@@ -10,9 +10,6 @@ returns-in-HostInterface c = told_host _ _ _ _ _ _ c.in-HostInterface.is c.put_d
 pub returns-in_default-state : goal.returns-in_default-state
 returns-in_default-state c = told_disabled _ _ _ _ c.in_default.not-HostInterface c.in_default-state.not-Enabled
 
-pub put_one-requires : goal.put_one-requires
-put_one-requires c = (rw c.in_ok-plan.was at c.plan_of.ensures).three
-
 pub returns-in_err-plan : goal.returns-in_err-plan
 returns-in_err-plan c =
     let p = err_from_is_err_and c.from_residual.result c.from_residual.ensures.1 in

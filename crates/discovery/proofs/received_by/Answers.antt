@@ -1,12 +1,10 @@
-use native.Mathlib.Omega.{arith}
-use Rattle.discovery.proofs.Notes.{told_last, told_path}
+use Rattle.std.proofs.Common.{ap, subst}
+use Rattle.std.specs.Prelude.{option_copied}
+use Rattle.discovery.specs.Work.{Told}
 use Rattle.discovery.proofs.received_by.Goals as goal
 
-pub returns-then-notes-ge-UNTOLD : goal.returns-then-notes-ge-UNTOLD
-returns-then-notes-ge-UNTOLD c = c.receive-searched.ensures.comes
+pub returns-in_default : goal.returns-in_default
+returns-in_default c = c.receive-searched.ensures.comes
 
-pub returns-then-notes-i : goal.returns-then-notes-i
-returns-then-notes-i c = told_last _ _ _ _ c.requires (omega (arith, c.if-notes-ge-UNTOLD.false)) _ c.find_note-i.ensures c.if-notes-i.true
-
-pub returns : goal.returns
-returns c = told_path _ _ _ _ c.requires (omega (arith, c.if-notes-ge-UNTOLD.false)) _ c.find_note-i.ensures c.if-notes-i.false _ (c.noted_path.ensures _)
+pub path_by_notes-requires : goal.path_by_notes-requires
+path_by_notes-requires c = let r = c.args.rings.now in subst (λ o. Told r.tables o r.last) (ap option_copied c.in-Some.is) c.requires

@@ -1,5 +1,5 @@
 use Rattle.std.proofs.lemmas.Result.{err_from_is_err_and}
-use mathlib.Core.Path.{sym}
+use mathlib.Core.Path.{sym, ◌∙◌}
 use native.Mathlib.Omega.{arith}
 use Rattle.discovery.proofs.Rings.{counted_start, counted_end, counted_on, counted_past, counted_refused, tally_few, idle_marked, ring_idle, putting_start, putting_on, putting_drafted, drafted_refused, ring_put}
 use Rattle.discovery.proofs.tally_rings.Goals as goal
@@ -9,7 +9,7 @@ loop-ring-init c = (counted_start _ _ _ _ c.requires.0, c.requires.2, putting_st
 
 pub loop-ring-preserved-then-is_idle : goal.loop-ring-preserved-then-is_idle
 loop-ring-preserved-then-is_idle c = let i = c.loop-ring.invariant in
-    let e = c.is_idle.ensures c.if-is_idle.true in
+    let e = sym c.is_idle.ensures ∙ c.if-is_idle.true in
     (counted_past _ _ _ _ _ _ i.0 c.loop-ring-test.true _ i.1 e, i.1, putting_on _ _ _ _ _ _ _ _ i.2 c.loop-ring-test.true _ _ (ring_idle _ _ _ _ i.1 _ e _ _ i.2.within))
 
 pub plan_ring-requires : goal.plan_ring-requires
@@ -28,7 +28,7 @@ pub overflow_add-need : goal.overflow_add-need
 overflow_add-need c = omega (arith, c.loop-ring.invariant.0.few, c.loop-ring.invariant.0.to, c.requires.1, tally_few _ _ (sym c.tally_plan-words.ensures) (rw c.in_ok-plan.was at c.plan_ring.ensures).few)
 
 pub put_plan-at-requires : goal.put_plan-at-requires
-put_plan-at-requires c = (c.loop-ring.invariant.2.within, (rw c.in_ok-plan.was at c.plan_ring.ensures).three)
+put_plan-at-requires c = c.loop-ring.invariant.2.within
 
 pub loop-ring-preserved : goal.loop-ring-preserved
 loop-ring-preserved c = let i = c.loop-ring.invariant in

@@ -19,4 +19,4 @@ returns-in_default c = aux_absent _ _ _ _ _ (subst (λ s. Tallied c.args.tables.
 pub returns : goal.returns
 unfolding at
 returns c = aux_path _ _ _ _ _ (subst (λ s. Tallied c.args.tables.now s.stand c.tally.result) c.starting-tx.ensures c.tally.ensures) _ _ _ _ _ _ _ _ _ (c.in_ok-walked.was ∙ ap Ok c.in-Some.is) c.path_words.ensures
-    c.starting.ensures c.starting-tx.ensures c.starting-2.ensures c.finish.ensures
+    c.starting.ensures c.starting-tx.ensures c.starting-rx.ensures c.finish.ensures

@@ -18,5 +18,5 @@ returns-in_default c = down_absent _ _ _ _ _ _ _ (subst (λ s. Tallied c.args.ta
 
 pub returns : goal.returns
 unfolding at
-returns c = down_path _ _ _ _ _ _ _ (subst (λ s. Tallied c.args.tables.now s.stand c.tally.result) c.starting-first.ensures c.tally.ensures) _ _ _ _ _ _ _ _ _ (c.in_ok-walked.was ∙ ap Ok c.in-Some.is) c.path_words.ensures
-    c.starting-first.ensures c.starting-last.ensures c.starting-last.ensures c.finish.ensures
+returns c = down_path _ _ _ _ _ _ _ (subst (λ s. Tallied c.args.tables.now s.stand c.tally.result) c.starting-first.ensures c.tally.ensures) _ _ _ _ _ _ _ _ (c.in_ok-walked.was ∙ ap Ok c.in-Some.is) c.path_words-words.ensures
+    c.starting-first.ensures c.starting-last.ensures c.finish.ensures

@@ -13,4 +13,4 @@ pub returns-in_default : goal.returns-in_default
 returns-in_default c = finish_absent _ _ _ _ _ _ _ _ c.tally.ensures (c.in_ok-walked.was ∙ ap Ok c.in_default.is)
 
 pub returns : goal.returns
-returns c = finish_path _ _ _ _ _ _ _ _ c.tally.ensures _ _ _ _ _ _ (c.in_ok-walked.was ∙ ap Ok c.in-Some.is) c.same.ensures c.path_words.ensures c.requires.0 c.requires.1
+returns c = finish_path _ _ _ _ _ _ _ _ c.tally.ensures _ _ _ _ _ _ (c.in_ok-walked.was ∙ ap Ok c.in-Some.is) c.same.ensures c.path_words.ensures c.requires
