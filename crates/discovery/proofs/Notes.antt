@@ -13,7 +13,7 @@ use Rattle.tables.specs.Rows.{Rows}
 use Rattle.refusal.proofs.Laws.{walk_bind}
 use Rattle.walk.specs.Tables.{Leaving, tally_outcome, Tallied, hops_by as hops_of_walk}
 use Rattle.receive.specs.Receive.{at}
-use Rattle.receive.specs.Tables.{Said, received_outcome, path_of, hops_by, note_stand, note_ring, said_from, walk_said, by_notes, is_path, Foretells, Receives, Searches}
+use Rattle.receive.specs.Tables.{Said, received_outcome, path_of, hops_by, note_stand, said_from, walk_said, by_notes, is_path, Foretells, Receives, Searches}
 use Rattle.receive.specs.declared.Received.{Received}
 use Rattle.receive.specs.declared.Received.TheVariants as answer
 use Rattle.discovery.specs.Work.{Known, Told, under, NotePath}
@@ -28,7 +28,7 @@ use Rattle.refusal.specs.declared.WalkError.{WalkError}
 
 module _ (x : Rows) (ring : ℕ) (rest : Outcome Said) where
   none_from : (q : ℕ) (notes : List ℕ) → position_from (under ring) q notes ≡ None → by_notes x ring notes rest ≡ rest
-  unfolding by_notes note_ring
+  unfolding by_notes
   none_from q [] e = refl
   none_from q (w ∷ ws) e = go (under ring w) e (none_from (q + 1) ws)
     where
@@ -37,7 +37,7 @@ module _ (x : Rows) (ring : ℕ) (rest : Outcome Said) where
       go false f ih = ih f
 
   first_from : (q i : ℕ) (notes : List ℕ) → position_from (under ring) q notes ≡ Some i → (k : ℕ) × (i ≡ q + k) × (by_notes x ring notes rest ≡ walk_said x ring (note_stand (get_or notes k 0)))
-  unfolding by_notes note_ring
+  unfolding by_notes
   first_from q i [] e = absurd (let y : ◌≡◌ {A = ℕ} 0 1 = cc in omega arith)
   first_from q i (w ∷ ws) e = go (under ring w) e (first_from (q + 1) i ws)
     where

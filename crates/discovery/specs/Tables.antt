@@ -7,7 +7,7 @@ use Rattle.refusal.specs.declared.Refusal.{Refusal}
 use Rattle.tables.specs.declared.Tables.{Tables}
 use Rattle.tables.specs.Tables.{Sized, Tabled, rows_of}
 
--- In tables in order it is what is discovered, and its words. In any others it is free, but that there is room for a list that is answered, and that no other word is changed.
+-- In tables in order it is what is discovered, and its words. Larger tables are not looked at: no list. In any others it is free, but by what it is refused, that there is room for a list that is answered, and that no other word is changed.
 pub record Discovered (tables : Tables) (p a : ℕ) (output : List ℕ) (r : Result (Option ℕ) Refusal) (output' : List ℕ) : Type 0 where
   pub answers : Sized tables → Tabled tables → outcome r ≡ bind (discover_at (rows_of tables) p a) (in_room (length output))
   pub writes : Sized tables → Tabled tables → output' ≡ output_by (discover_at (rows_of tables) p a) output

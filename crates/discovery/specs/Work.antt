@@ -10,7 +10,7 @@ use Rattle.refusal.specs.Refusal.{is_given, IsMet, outcome, walk_outcome}
 use Rattle.walk.specs.Rule.{walk_from}
 use Rattle.path.specs.Words.{path_words}
 use Rattle.receive.specs.Receive.{Receive, receive}
-use Rattle.receive.specs.Tables.{received_outcome, hops_by, note_stand, walk_said, is_path, Foretells}
+use Rattle.receive.specs.Tables.{received_outcome, hops_by, note_ring, note_stand, walk_said, is_path, Foretells}
 use Rattle.receive.specs.declared.Received.{Received}
 use Rattle.tunnel.specs.Tunnels.{Path, Tunnel, down_and_up, display_port, one_dma, rings, or_none, alone}
 use Rattle.tunnel.specs.Words.{tunnels_words}
@@ -112,7 +112,7 @@ pub record Told (tables : Tables) (notes : Option (List ℕ)) (last : Result Rec
 
 -- a note's path leaves by a ring
 abbrev pub under : ℕ → ℕ → Bool
-under ring note = eqb (note % 65536) ring
+under ring note = eqb (note_ring note) ring
 
 -- what is said of a note's path
 pub record NotePath (tables : Tables) (ring note : ℕ) (r : Result Received WalkError) : Type 0 where

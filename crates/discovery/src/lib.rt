@@ -216,6 +216,7 @@ fn known_notes<const ROOM: usize>(searched: &Searched<ROOM>) -> Option<&[u64]>
 }
 
 // The place of the first note of a path that leaves by a ring.
+#[tactic(auto, unfolding(receive::specs::Tables::note_ring))]
 fn find_note(notes: &[u64], ring: u16) -> Option<usize>
     ensures { result ≡ position (λ note. under ring note) notes.now }
 {
