@@ -10,13 +10,13 @@ use mathlib.Core.List.{List, [], ◌∷◌}
 use lib.ListN.{length, get_or, take, drop, drop_of_length-le, length-drop}
 use lib.Seq.{drop-cons, get_or-drop, take_all, drop-drop, length-take-le, take-nil}
 use lib.Dec.{eqb}
-use native.Mathlib.Decide.{dec_lt, dec_le}
+use native.Mathlib.Decide.{dec_lt}
 use borrow.Author.Tests.{ne_eqb, not-true, le-ltb}
 use Rattle.scan.specs.Scan.{is_space, is_line_feed, is_high, is_not, before, place_from, TokenFrom, TokenAt, on_first, pieces, filled, tokens, ended, lines}
 use Rattle.scan.specs.declared.Part.{Part}
-use Rattle.std.specs.Prelude.{max, min}
+use Rattle.std.specs.Prelude.{max}
 use Rattle.std.specs.List.{fold}
-use Rattle.std.proofs.Math.Nat.{min-eq_left, min-eq_right, max-eq_left, max-eq_right, le-max_left, le-max_right}
+use Rattle.std.proofs.Math.Nat.{le-max_left, le-max_right}
 use Rattle.std.proofs.lemmas.Bool.{eqb-true, eqb-false}
 
 module _ (p : ℕ → Bool) (s : List ℕ) (i : ℕ) where
@@ -291,24 +291,11 @@ module _ (s : List ℕ) (k at st : ℕ) (t : Part) (starts : st ≡ place_from (
       none h (yes l) = absurd (omega (arith, long, h, token_long s at st t.end starts is.0 l))
       none h (no l) = omega (arith, ap length (token_missing s at st t.end starts is.0 (omega arith)), ap length here, length-drop k (tokens s))
 
--- a token that is sought from the end on where i is past it, and ends at i there
-pub token_cut : (s : List ℕ) (i start stop : ℕ) → start ≡ place_from (is_not is_space) s (min i (length s)) → stop ≡ place_from is_space s start
-    → (max stop i ≡ place_from is_space s (place_from (is_not is_space) s i)) × (take (stop - start) (drop start s) ≡ take (max stop i - place_from (is_not is_space) s i) (drop (place_from (is_not is_space) s i) s))
-token_cut s i start stop e f = go (dec_le i (length s))
-  where
-    go : Dec (i ≤ length s) → (max stop i ≡ place_from is_space s (place_from (is_not is_space) s i)) × (take (stop - start) (drop start s) ≡ take (max stop i - place_from (is_not is_space) s i) (drop (place_from (is_not is_space) s i) s))
-    go (yes l) =
-        let g : start ≡ place_from (is_not is_space) s i = e ∙ ap (λ n. place_from (is_not is_space) s n) (min-eq_left l) in
-        let m : max stop i ≡ stop = max-eq_left (omega (arith, f, g, place_above is_space s start, place_above (is_not is_space) s i)) in
-        (m ∙ f ∙ ap (λ n. place_from is_space s n) g, rw (m, g) refl)
-    go (no l) =
-        let g : start ≡ length s = e ∙ ap (λ n. place_from (is_not is_space) s n) (min-eq_right (omega arith)) ∙ place_end (is_not is_space) s (length s) (omega arith) in
-        let h : stop ≡ length s = f ∙ ap (λ n. place_from is_space s n) g ∙ place_end is_space s (length s) (omega arith) in
-        let m : max stop i ≡ i = max-eq_right (omega (arith, h)) in
-        let k : place_from (is_not is_space) s i ≡ i = place_end (is_not is_space) s i (omega arith) in
-        let n : stop - start ≡ 0 = omega (arith, g, h) in
-        let o : max stop i - place_from (is_not is_space) s i ≡ 0 = omega (arith, m, k) in
-        (m ∙ sym (ap (λ n. place_from is_space s n) k ∙ place_end is_space s i (omega arith)), rw (n, o) refl)
+-- past the end there is no token
+pub token_past : (s : List ℕ) (i : ℕ) → length s ≤ i → (i ≡ place_from is_space s (place_from (is_not is_space) s i)) × (take 0 s ≡ take (i - place_from (is_not is_space) s i) (drop (place_from (is_not is_space) s i) s))
+token_past s i h =
+    let n : i - i ≡ 0 = omega arith in
+    rw (place_end (is_not is_space) s i h) (sym (place_end is_space s i h), rw n refl)
 
 pub nth_first : (s : List ℕ) (t : Part) → TokenAt s 0 t → Nth s 0 t
 nth_first s t h = nth s 0 0 _ t refl h (omega arith) refl

@@ -55,13 +55,17 @@ fn place<F: Fn(u8) -> bool>(s: &[u8], at: usize, sought: F) -> usize
 pub fn token(s: &[u8], at: usize) -> Part<'_>
     ensures { TokenAt s.now at result }
 {
-    let start = place(s, at.min(s.len()), |b| !is_space(b));
+    // Apart, since lines of few tokens took a quarter longer where each that is missing was looked for.
+    if s.len() <= at {
+        return Part {
+            text: &s[..0],
+            end: at,
+        };
+    }
+    let start = place(s, at, |b| !is_space(b));
     let stop = place(s, start, is_space);
     let text = &s[start..stop];
-    Part {
-        text,
-        end: stop.max(at),
-    }
+    Part { text, end: stop }
 }
 
 // The first place from `at` on that holds LF, or the end; `at` itself past the end.
