@@ -22,14 +22,23 @@ pub struct PathName(pub u8);
 // Those that document 01 numbers. The path of a single walk has one beside those of tunnels' paths.
 impl PathName {
     pub const USB3_DOWN: PathName = PathName(0);
+
     pub const USB3_UP: PathName = PathName(1);
+
     pub const VIDEO: PathName = PathName(2);
+
     pub const AUX_TX: PathName = PathName(3);
+
     pub const AUX_RX: PathName = PathName(4);
+
     pub const PCIE_DOWN: PathName = PathName(5);
+
     pub const PCIE_UP: PathName = PathName(6);
+
     pub const DMA_TX: PathName = PathName(7);
+
     pub const DMA_RX: PathName = PathName(8);
+
     pub const WALK: PathName = PathName(9);
 }
 
