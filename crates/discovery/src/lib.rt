@@ -491,11 +491,11 @@ fn plan_of(tables: &Tables, site: Site, kind: AdapterType) -> Result<Option<Plan
         AdapterType::DisplayPortIn => tunnel::display_port(tables, site),
         AdapterType::PcieDown => {
             let pcie = TunnelType::Pcie;
-            tunnel::down_and_up(tables, site, pcie, PathName::PcieDown, PathName::PcieUp)
+            tunnel::down_and_up(tables, site, pcie, PathName::PCIE_DOWN, PathName::PCIE_UP)
         }
         AdapterType::Usb3Down => {
             let usb3 = TunnelType::Usb3;
-            tunnel::down_and_up(tables, site, usb3, PathName::Usb3Down, PathName::Usb3Up)
+            tunnel::down_and_up(tables, site, usb3, PathName::USB3_DOWN, PathName::USB3_UP)
         }
         _ => Ok(None),
     }

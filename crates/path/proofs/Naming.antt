@@ -1,18 +1,17 @@
--- A law of names: four bits have room for each. Assumes nothing.
-use Prim.Native.Nat.{◌≤◌}
-use native.Mathlib.Omega.{arith}
-use Rattle.path.specs.Names.{name_number}
-use Rattle.path.specs.declared.PathName.{PathName}
-use Rattle.path.specs.declared.PathName.TheVariants as name
+-- The names of paths have document 01's numbers. Assumes nothing.
+use mathlib.Core.Path.{refl}
+use Rattle.path.specs.Names.{Numbered}
 
-pub name_few : (n : PathName) → name_number n ≤ 15
-name_few name.Usb3Down = omega arith
-name_few name.Usb3Up = omega arith
-name_few name.Video = omega arith
-name_few name.AuxTx = omega arith
-name_few name.AuxRx = omega arith
-name_few name.PcieDown = omega arith
-name_few name.PcieUp = omega arith
-name_few name.DmaTx = omega arith
-name_few name.DmaRx = omega arith
-name_few name.Walk = omega arith
+pub numbered : Numbered
+numbered = record {
+  usb3_down = refl;
+  usb3_up = refl;
+  video = refl;
+  aux_tx = refl;
+  aux_rx = refl;
+  pcie_down = refl;
+  pcie_up = refl;
+  dma_tx = refl;
+  dma_rx = refl;
+  walk = refl;
+}

@@ -15,26 +15,38 @@ const MOST_ENTRIES: usize = 4096;
 
 const MOST_DEVICES: usize = 4096;
 
-// Names of paths, in document 01's numbers. The path of a single walk has one beside those of tunnels' paths.
+// A path's name by its number, which is any that a byte holds: a caller may have names of its own.
 #[derive(Clone, Copy, PartialEq, Eq)]
-pub enum PathName {
-    Usb3Down = 0,
-    Usb3Up = 1,
-    Video = 2,
-    AuxTx = 3,
-    AuxRx = 4,
-    PcieDown = 5,
-    PcieUp = 6,
-    DmaTx = 7,
-    DmaRx = 8,
-    Walk = 9,
+pub struct PathName(pub u8);
+
+// Those that document 01 numbers. The path of a single walk has one beside those of tunnels' paths.
+impl PathName {
+    pub const USB3_DOWN: PathName = PathName(0);
+
+    pub const USB3_UP: PathName = PathName(1);
+
+    pub const VIDEO: PathName = PathName(2);
+
+    pub const AUX_TX: PathName = PathName(3);
+
+    pub const AUX_RX: PathName = PathName(4);
+
+    pub const PCIE_DOWN: PathName = PathName(5);
+
+    pub const PCIE_UP: PathName = PathName(6);
+
+    pub const DMA_TX: PathName = PathName(7);
+
+    pub const DMA_RX: PathName = PathName(8);
+
+    pub const WALK: PathName = PathName(9);
 }
 
 impl From<PathName> for u32 {
     ghost from_gives = { λ p n. n ≡ name_number p };
 
     fn from(name: PathName) -> u32 {
-        name as u32
+        name.0 as u32
     }
 }
 

@@ -18,7 +18,7 @@ use Rattle.walk.specs.Tables.{Tallied}
 use Rattle.path.specs.Words.{path_words, words_needed}
 use Rattle.path.specs.Names.{name_number}
 use Rattle.path.specs.declared.PathName.{PathName}
-use Rattle.path.specs.declared.PathName.TheVariants as name
+use Rattle.path.specs.declared.TheConstants.PathName as name
 use Rattle.path.proofs.Writing.{length_path_words, stood}
 use Rattle.path.proofs.Answering.{hops_few}
 use Rattle.receive.specs.Receive.{at}
@@ -204,7 +204,7 @@ module _ (tables : Tables) (p a words : ℕ) (r : Result (Option Walked) WalkErr
   unfolding auxiliary at
   aux_absent e = draws_absent tables p _ (λ t l. sym (needed_none _ _ _ (tally_absent tables _ r f t l e)))
 
-  pub aux_path : (n q b h w : ℕ) (first second third : Started) (y : Result (Option Planned) WalkError) → r ≡ walked_to n q b h → Words n w → first ≡ start_by (at p a 9) name.Video → second ≡ start_by (at p a 8) name.AuxTx → third ≡ start_by (at q b 8) name.AuxRx
+  pub aux_path : (n q b h w : ℕ) (first second third : Started) (y : Result (Option Planned) WalkError) → r ≡ walked_to n q b h → Words n w → first ≡ start_by (at p a 9) name.VIDEO → second ≡ start_by (at p a 8) name.AUX_TX → third ≡ start_by (at q b 8) name.AUX_RX
       → Draws tables third.stand.place (λ x. finished x tunnel_type.DisplayPort (words + w) p a third.stand (starts.Three first second third)) y → Draws tables p (λ x. auxiliary x p a words) y
   unfolding auxiliary at
   aux_path n q b h w first second third y e (m, k) i j o d = record {
@@ -214,9 +214,9 @@ module _ (tables : Tables) (p a words : ℕ) (r : Result (Option Walked) WalkErr
         let few = hops_few tables _ r v f n q b h e in
         d.answers v t (omega (arith, ap (λ (s : Started). s.stand.place) o, u.1.there, t.others.devices))
         ∙ ap (λ s. finished x tunnel_type.DisplayPort (words + w) p a third.stand (starts.Three s second third)) i
-        ∙ ap (λ s. finished x tunnel_type.DisplayPort (words + w) p a third.stand (starts.Three (start_by (at p a 9) name.Video) s third)) j
-        ∙ ap (λ (s : Started). finished x tunnel_type.DisplayPort (words + w) p a s.stand (starts.Three (start_by (at p a 9) name.Video) (start_by (at p a 8) name.AuxTx) s)) (o ∙ ap (λ s. start_by s name.AuxRx) (sym (u.1.leave 8)))
-        ∙ ap (λ c. finished x tunnel_type.DisplayPort (words + c) p a (leaving 8 u.0) (starts.Three (start_by (at p a 9) name.Video) (start_by (at p a 8) name.AuxTx) (start_by (leaving 8 u.0) name.AuxRx))) (k (omega (arith, few)) ∙ ap (λ c. 1 + 2 * c) (sym u.1.count))
+        ∙ ap (λ s. finished x tunnel_type.DisplayPort (words + w) p a third.stand (starts.Three (start_by (at p a 9) name.VIDEO) s third)) j
+        ∙ ap (λ (s : Started). finished x tunnel_type.DisplayPort (words + w) p a s.stand (starts.Three (start_by (at p a 9) name.VIDEO) (start_by (at p a 8) name.AUX_TX) s)) (o ∙ ap (λ s. start_by s name.AUX_RX) (sym (u.1.leave 8)))
+        ∙ ap (λ c. finished x tunnel_type.DisplayPort (words + c) p a (leaving 8 u.0) (starts.Three (start_by (at p a 9) name.VIDEO) (start_by (at p a 8) name.AUX_TX) (start_by (leaving 8 u.0) name.AUX_RX))) (k (omega (arith, few)) ∙ ap (λ c. 1 + 2 * c) (sym u.1.count))
         ∙ sym (needed_path x (at p a 8) u.0 _ u.1.walk);
     few = d.few;
   }

@@ -13,7 +13,7 @@ use Rattle.tables.specs.Rows.{EntryRow, DeviceRow, Rows}
 use Rattle.refusal.proofs.Laws.{walk_bind}
 use Rattle.walk.specs.Rule.{stand_of}
 use Rattle.walk.specs.Tables.{last_of, leaving_by, Tallied}
-use Rattle.path.specs.declared.PathName.TheVariants as name
+use Rattle.path.specs.declared.TheConstants.PathName as name
 use Rattle.path.proofs.Writing.{stood}
 use Rattle.path.proofs.Answering.{hops_few}
 use Rattle.receive.specs.Receive.{at, Lane, Lane.lane, Lane.passed, Lane.dropped as drop, lane_of, Receive, Receive.received, Receive.nothing, Receive.lost, uses_ring, or_rest, among_hops, at_lane, or_next, among_devices, receive}
@@ -135,10 +135,10 @@ module _ (tables : Tables) (ring : ℕ) (r : Result Received WalkError) (f : Rec
   unfolding hops_by
   few_hops s k o b e z = let v : k ≤ length tables.entries.now = subst (λ y. hops_by y ≤ length tables.entries.now) e f.few in omega (arith, z.entries)
 
-  pub alone_path : (s : Stand) (k o b w : ℕ) (y : Planned) → r ≡ Ok (found.Path (path_of s k o b)) → Words k w → y ≡ one_path (1 + w) (start_by s name.DmaRx) → Draws tables 0 (λ x. ring_by x ring alone_plan) (Ok (Some y))
+  pub alone_path : (s : Stand) (k o b w : ℕ) (y : Planned) → r ≡ Ok (found.Path (path_of s k o b)) → Words k w → y ≡ one_path (1 + w) (start_by s name.DMA_RX) → Draws tables 0 (λ x. ring_by x ring alone_plan) (Ok (Some y))
   unfolding received_outcome planned_outcome words_by alone_plan one_path one_plan
   alone_path s k o b w y e (m, g) i = subst (λ z. Draws tables 0 (λ x. ring_by x ring alone_plan) (Ok (Some z))) (sym i)
-      (ring_says alone_plan _ (Ok (Some (one_path (1 + w) (start_by s name.DmaRx)))) (ap (received_outcome ring) e)
+      (ring_says alone_plan _ (Ok (Some (one_path (1 + w) (start_by s name.DMA_RX)))) (ap (received_outcome ring) e)
       (λ z. ap (λ c. value (Some (plan tunnel_type.Dma false (1 + c) (from s 8 ∷ [])))) (g (omega (arith, few_hops s k o b e z))))
       (omega arith))
 
@@ -147,13 +147,13 @@ module _ (tables : Tables) (ring : ℕ) (r : Result Received WalkError) (f : Rec
     unfolding received_outcome planned_outcome words_by with_plan
     with_lost e = ring_says (with_plan s words) dropped (Ok None) (ap (received_outcome ring) e) (λ z. refl) (omega arith)
 
-    pub with_nothing : (y : Planned) → r ≡ Ok found.Nothing → y ≡ one_path words (start_by s name.DmaTx) → Draws tables 0 (λ x. ring_by x ring (with_plan s words)) (Ok (Some y))
+    pub with_nothing : (y : Planned) → r ≡ Ok found.Nothing → y ≡ one_path words (start_by s name.DMA_TX) → Draws tables 0 (λ x. ring_by x ring (with_plan s words)) (Ok (Some y))
     unfolding received_outcome planned_outcome words_by with_plan one_path one_plan
     with_nothing y e i = subst (λ z. Draws tables 0 (λ x. ring_by x ring (with_plan s words)) (Ok (Some z))) (sym i)
-        (ring_says (with_plan s words) said-none (Ok (Some (one_path words (start_by s name.DmaTx)))) (ap (received_outcome ring) e) (λ z. refl) (omega arith))
+        (ring_says (with_plan s words) said-none (Ok (Some (one_path words (start_by s name.DMA_TX)))) (ap (received_outcome ring) e) (λ z. refl) (omega arith))
 
     pub with_path_lem : (t : Stand) (k o b w : ℕ) (c : Bool) → r ≡ Ok (found.Path (path_of t k o b)) → Words k w → c ≡ (eqb o s.place && eqb b s.adapter)
-        → Draws tables 0 (λ x. ring_by x ring (with_plan s words)) (Ok (Some (planned_as tunnel_type.Dma c (words + w) (starts.Two (start_by s name.DmaTx) (start_by t name.DmaRx)))))
+        → Draws tables 0 (λ x. ring_by x ring (with_plan s words)) (Ok (Some (planned_as tunnel_type.Dma c (words + w) (starts.Two (start_by s name.DMA_TX) (start_by t name.DMA_RX)))))
     unfolding received_outcome planned_outcome words_by with_plan
     with_path_lem t k o b w c e (m, g) i =
         ring_says (with_plan s words) _ _ (ap (received_outcome ring) e)

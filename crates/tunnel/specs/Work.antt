@@ -6,7 +6,7 @@ use Rattle.usb4.specs.declared.TunnelType.TheVariants as tunnel_type
 use Rattle.tables.specs.Rows.{EntryRow, Rows}
 use Rattle.walk.specs.Tables.{last_of}
 use Rattle.path.specs.declared.PathName.{PathName}
-use Rattle.path.specs.declared.PathName.TheVariants as name
+use Rattle.path.specs.declared.TheConstants.PathName as name
 use Rattle.receive.specs.Receive.{at, receive}
 use Rattle.receive.specs.Tables.{Said, Said.path, Said.none as nothing, Said.dropped, said_of}
 use Rattle.tunnel.specs.Tunnels.{leaving, needed}
@@ -44,7 +44,7 @@ finished x t w p a s l = needed x s (λ hs. value (Some (last_plan t w p a l hs)
 -- AUX TX and AUX RX after w words
 unfoldable pub auxiliary : Rows → ℕ → ℕ → ℕ → Outcome (Option Plan)
 auxiliary x p a w =
-    needed x (at p a 8) (λ ts. finished x tunnel_type.DisplayPort (w + (1 + 2 * length ts)) p a (leaving 8 ts) (starts.Three (start_by (at p a 9) name.Video) (start_by (at p a 8) name.AuxTx) (start_by (leaving 8 ts) name.AuxRx)))
+    needed x (at p a 8) (λ ts. finished x tunnel_type.DisplayPort (w + (1 + 2 * length ts)) p a (leaving 8 ts) (starts.Three (start_by (at p a 9) name.VIDEO) (start_by (at p a 8) name.AUX_TX) (start_by (leaving 8 ts) name.AUX_RX)))
 
 -- a ring's tunnel of one path
 unfoldable pub one_path : ℕ → Started → Planned

@@ -141,7 +141,7 @@ fn aux(tables: &Tables, site: Site, words: usize) -> Result<Option<Plan>, WalkEr
     requires { words ≤ 131072 }
     ensures { Draws tables.now site.place (λ x. auxiliary x site.place site.adapter words) result }
 {
-    let tx = starting(site, DP_AUX_TX_HOPID, PathName::AuxTx);
+    let tx = starting(site, DP_AUX_TX_HOPID, PathName::AUX_TX);
     let walked = walk::tally(tables, tx.stand)?;
     let Some(w) = walked else {
         return Ok(None);
@@ -150,9 +150,9 @@ fn aux(tables: &Tables, site: Site, words: usize) -> Result<Option<Plan>, WalkEr
         place: w.place,
         adapter: w.adapter,
     };
-    let rx = starting(leaves, DP_AUX_RX_HOPID, PathName::AuxRx);
+    let rx = starting(leaves, DP_AUX_RX_HOPID, PathName::AUX_RX);
     let starts = Starts::Three {
-        first: starting(site, DP_VIDEO_HOPID, PathName::Video),
+        first: starting(site, DP_VIDEO_HOPID, PathName::VIDEO),
         second: tx,
         last: rx,
     };
@@ -165,7 +165,7 @@ fn aux(tables: &Tables, site: Site, words: usize) -> Result<Option<Plan>, WalkEr
 pub fn display_port(tables: &Tables, site: Site) -> Result<Option<Plan>, WalkError>
     ensures { Plans tables.now site.place (λ x. display_port x site.place site.adapter) result }
 {
-    let video = starting(site, DP_VIDEO_HOPID, PathName::Video);
+    let video = starting(site, DP_VIDEO_HOPID, PathName::VIDEO);
     let walked = walk::tally(tables, video.stand)?;
     let Some(w) = walked else {
         return Ok(None);
@@ -196,7 +196,7 @@ fn receive_alone(received: Result<Received, WalkError>) -> Result<Option<Plan>, 
         Received::Path(p) => {
             let start = Start {
                 stand: p.start,
-                name: PathName::DmaRx,
+                name: PathName::DMA_RX,
             };
             Ok(Some(one_path(1 + path_words(p.hops), start)))
         }
@@ -214,7 +214,7 @@ fn receive_with(
 {
     let tx = Start {
         stand,
-        name: PathName::DmaTx,
+        name: PathName::DMA_TX,
     };
     let found = received?;
     match found {
@@ -223,7 +223,7 @@ fn receive_with(
         Received::Path(p) => {
             let rx = Start {
                 stand: p.start,
-                name: PathName::DmaRx,
+                name: PathName::DMA_RX,
             };
             let leaves = Site {
                 place: p.out_place,

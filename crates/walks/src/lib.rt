@@ -24,5 +24,5 @@ pub fn discover_path(
     let Some(_) = search::find_adapter(tables.adapters, stand.place, stand.adapter) else {
         return Err(Refusal::Missing);
     };
-    path::put_path(&tables, stand, PathName::Walk, output)
+    path::put_path(&tables, stand, PathName::WALK, output)
 }
