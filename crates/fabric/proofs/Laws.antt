@@ -3,23 +3,23 @@ use Prim.Native.Nat.{ℕ, suc, ◌+◌, ◌<◌}
 use mathlib.Core.Bool.{Bool, true, false, cond, ◌&&◌}
 use mathlib.Core.Path.{◌≡◌, refl, sym, ap, ◌∙◌, subst}
 use mathlib.Core.List.{List, [], ◌∷◌}
-use Rattle.std.specs.Prelude.{Option, None, Some}
+use Rattle.std.specs.Prelude.{Option, None, Some, Result}
 use Rattle.std.proofs.lemmas.Option.{same_Some, none-some}
 use native.Mathlib.Omega.{arith}
 use native.Mathlib.Decide.{dec_lt}
 use lib.Dec.{eqb}
 use lib.ListN.{length}
-use borrow.Author.Tests.{eqb-true}
 use Rattle.refusal.specs.Outcome.{Outcome, refused, value, bind}
 use Rattle.refusal.specs.Refusal.{refusal_of}
+use Rattle.refusal.specs.declared.WalkError.{WalkError}
 use Rattle.refusal.specs.declared.Fault.TheVariants.{NoParentRoute, NoDownstreamRoute, NoOutAdapter}
 use Rattle.usb4.specs.Numbers.{type_number}
 use Rattle.usb4.specs.declared.AdapterType.{AdapterType}
 use Rattle.usb4.specs.declared.AdapterType.TheVariants as type
 use Rattle.route.specs.Route.{upstream_route, downstream_route, downstream_adapter}
 use Rattle.adapter.specs.Adapter.{AdapterRow, adapter_site, is_lane}
-use Rattle.tables.specs.Rows.{DeviceRow, Rows, adapter_in, device_in, is_router, router_from}
-use Rattle.tables.specs.Packed.{Sorted, adapter_unit, adapters_in, device_row, devices_from, devices_in}
+use Rattle.tables.specs.Rows.{DeviceRow, EntryRow, Rows, adapter_in, device_in, is_router, router_from}
+use Rattle.tables.specs.Packed.{Sorted, adapter_unit, entries_in, adapters_in, device_row, devices_from, devices_in}
 use Rattle.tables.proofs.Laws.{device_past, has_number}
 use Rattle.search.specs.Lanes.{lane_if, LaneSought}
 use Rattle.load.specs.Answers.{present, asked_device}
@@ -28,7 +28,8 @@ use Rattle.fabric.specs.Fabric.{Way, Way.on, Way.last, Way.dropped, stand_by, up
 use Rattle.tables.specs.declared.Tables.{Tables}
 use Rattle.tables.specs.declared.DeviceFacts.{DeviceFacts}
 use Rattle.tables.specs.Tables.{InOrder, rows_of}
-use Rattle.fabric.specs.Tables.{lane_leads}
+use Rattle.fabric.specs.Tables.{rows_with, next_outcome, LeadsTo, lane_leads}
+use Rattle.fabric.specs.declared.Next.{Next}
 
 -- ---- routes
 
@@ -186,19 +187,19 @@ module _ (x : Rows) (p o : ℕ) where
   leads_there d y e g = ap (leads_by x p o d) g ∙ ap (λ (z : Option DeviceRow). bind (present z) (λ v. leads_by x p o v (adapter_in x.adapters p o))) e
 
 -- from a device by an out adapter that was sought
-module _ (tables : Tables) (p o : ℕ) (k : InOrder tables) (d : DeviceRow) (there : Some d ≡ device_in (devices_in tables.devices.now) p) (r : Option Bool) (h : LaneSought tables.adapters.now p o r) where
+module _ (es : List EntryRow) (tables : Tables) (p o : ℕ) (k : InOrder tables) (d : DeviceRow) (there : Some d ≡ device_in (devices_in tables.devices.now) p) (r : Option Bool) (h : LaneSought tables.adapters.now p o r) where
   abbrev at : Rows
-  at = rows_of tables
+  at = rows_with es tables
 
   is_lane_lem : r ≡ lane_if (adapter_in (adapters_in tables.adapters.now) p o)
   is_lane_lem = h.first (device_fits tables p d k there) k.adapters
 
   pub leads_nowhere : r ≡ None → refusal_of (NoOutAdapter (adapter_site p o)) ≡ leads at p o
-  unfolding rows_of leads_by
+  unfolding rows_with leads_by
   leads_nowhere e = leads_there at p o d None there (lane_none (adapter_in (adapters_in tables.adapters.now) p o) (sym (e) ∙ is_lane_lem))
 
   pub leads_other : r ≡ (Some false) → value last ≡ leads at p o
-  unfolding rows_of leads_by
+  unfolding rows_with leads_by
   leads_other e = let y = lane_some (adapter_in (adapters_in tables.adapters.now) p o) false (sym (e) ∙ is_lane_lem) in from_other at p d y.0 y.2 ∙ leads_there at p o d (Some y.0) there y.1
 
   module _ (e : r ≡ (Some true)) where
@@ -210,7 +211,7 @@ module _ (tables : Tables) (p o : ℕ) (k : InOrder tables) (d : DeviceRow) (the
     by_number P = subst P (has_number (adapters_in tables.adapters.now) p o lane_is.0 (sym lane_is.1))
 
     from_lane : leads_from at p d lane_is.0 ≡ leads at p o
-    unfolding rows_of leads_by
+    unfolding rows_with leads_by
     from_lane = leads_there at p o d (Some lane_is.0) there lane_is.1
 
     pub leads_lane : lane_leads at p d o ≡ leads at p o
@@ -230,3 +231,8 @@ module _ (x : Rows) (p : ℕ) (d : DeviceRow) (n : ℕ) where
   pub lane_down : is_upstream d.upstream n ≡ false → (o : Option ℕ) → downstream_route d.route n ≡ o → bind (route_or (NoDownstreamRoute (adapter_site p n)) o) (λ r. to_route x d r (arrive_down x)) ≡ lane_leads x p d n
   unfolding lane_leads
   lane_down g o e = rw (g, e) refl
+
+-- over the tables' own entries
+pub leads_own : {t : Tables} {f : Rows → Outcome Way} {r : Result Next WalkError} → LeadsTo t f r → InOrder t → next_outcome r ≡ f (rows_of t)
+unfolding rows_of rows_with
+leads_own {t} l k = l.leads_to k (entries_in t.entries.now)

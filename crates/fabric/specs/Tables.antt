@@ -1,18 +1,23 @@
 -- Where a hop leads, on tables. Assumes nothing.
-use Rattle.std.specs.Prelude.{Result, Ok, Err, ℕ, ◌≡◌, cond}
+use Rattle.std.specs.Prelude.{Result, Ok, Err, ℕ, ◌≡◌, cond, List}
 use Rattle.refusal.specs.Outcome.{Outcome, value, bind}
 use Rattle.refusal.specs.Refusal.{refused_by, of_walk}
 use Rattle.refusal.specs.declared.WalkError.{WalkError}
 use Rattle.refusal.specs.declared.Fault.TheVariants.{NoParentRoute, NoDownstreamRoute}
 use Rattle.route.specs.Route.{upstream_route, downstream_route}
 use Rattle.adapter.specs.Adapter.{adapter_site}
-use Rattle.tables.specs.Rows.{DeviceRow, Rows}
-use Rattle.tables.specs.Tables.{InOrder, rows_of}
+use Rattle.tables.specs.Rows.{DeviceRow, EntryRow, Rows}
+use Rattle.tables.specs.Packed.{adapters_in, devices_in}
+use Rattle.tables.specs.Tables.{InOrder}
 use Rattle.tables.specs.declared.Tables.{Tables}
 use Rattle.fabric.specs.Links.{is_upstream, route_or}
 use Rattle.fabric.specs.Fabric.{Way, Way.on, Way.last, Way.dropped, to_route, arrive_up, arrive_down}
 use Rattle.fabric.specs.declared.Next.{Next}
 use Rattle.fabric.specs.declared.Next.TheVariants as next
+
+-- the rows of tables, with any entries: where a hop leads, they play no part
+unfoldable pub rows_with : List EntryRow → Tables → Rows
+rows_with es t = record { entries = es; adapters = adapters_in t.adapters.now; devices = devices_in t.devices.now }
 
 -- where a walk goes, as the definition says it
 abbrev pub way_of : Next → Way
@@ -27,7 +32,7 @@ next_outcome (Err e) = refused_by (of_walk e)
 
 -- In tables that are in order it is what f says of their rows. In any others it is free, but that it is a fault or 14 where it is refused.
 pub record LeadsTo (tables : Tables) (f : Rows → Outcome Way) (r : Result Next WalkError) : Type 0 where
-  pub leads_to : InOrder tables → next_outcome r ≡ f (rows_of tables)
+  pub leads_to : InOrder tables → (es : List EntryRow) → next_outcome r ≡ f (rows_with es tables)
 
 -- from lane n of a router d: up where it is the upstream adapter, or 11; else down, or 12
 unfoldable pub lane_leads : Rows → ℕ → DeviceRow → ℕ → Outcome Way

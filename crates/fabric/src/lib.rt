@@ -4,10 +4,11 @@
 ghost use Rattle.std.specs.Prelude.{ℕ, ◌<◌, ◌≡◌, Some, Ok};
 ghost use Rattle.refusal.specs.Refusal.{field_at};
 ghost use Rattle.refusal.specs.declared.Site.{Site};
-ghost use Rattle.tables.specs.Packed.{device_row};
-ghost use Rattle.tables.specs.Tables.{InOrder, rows_of};
+ghost use Rattle.tables.specs.Rows.{adapter_in};
+ghost use Rattle.tables.specs.Packed.{device_row, adapters_in};
+ghost use Rattle.tables.specs.Tables.{InOrder};
 ghost use Rattle.fabric.specs.Links.{is_upstream};
-ghost use Rattle.fabric.specs.Fabric.{stand_at, arrive_up, arrive_down, to_route, leads};
+ghost use Rattle.fabric.specs.Fabric.{stand_by, arrive_up, arrive_down, to_route, leads};
 ghost use Rattle.fabric.specs.Tables.{way_of, LeadsTo, lane_leads};
 
 use refusal::{Fault, FieldError, Site, WalkError};
@@ -34,7 +35,7 @@ fn is_upstream(upstream: Result<Option<u8>, FieldError>, number: u8) -> bool
 
 // At an adapter of the device at a place; a missing one gives no path at all.
 fn stand_at(tables: &Tables, place: usize, number: u8) -> Next
-    ensures { InOrder tables.now → place < 65536 → way_of result ≡ stand_at (rows_of tables.now) place number }
+    ensures { InOrder tables.now → place < 65536 → way_of result ≡ stand_by place number (adapter_in (adapters_in tables.now.adapters.now) place number) }
 {
     if let None = search::find_lane(tables.adapters, place, number) {
         return Next::Dropped;

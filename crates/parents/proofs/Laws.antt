@@ -13,7 +13,7 @@ use Rattle.usb4.specs.Numbers.{device_kind_number}
 use Rattle.route.specs.Route.{upstream_route}
 use Rattle.adapter.specs.Adapter.{AdapterRow, adapter_site}
 use Rattle.tables.specs.Rows.{Rows, DeviceRow, adapter_in, device_in, is_router}
-use Rattle.tables.specs.Packed.{device_row, devices_in}
+use Rattle.tables.specs.Packed.{device_row, entries_in, devices_in}
 use Rattle.tables.specs.Tables.{InOrder, Tabled, rows_of}
 use Rattle.tables.specs.declared.Tables.{Tables}
 use Rattle.load.specs.Answers.{asked_device, present}
@@ -22,6 +22,7 @@ use Rattle.refusal.specs.Refusal.{fault_outcome, field_at}
 use Rattle.refusal.specs.declared.Fault.{Fault}
 use Rattle.tables.specs.declared.DeviceFacts.{DeviceFacts}
 use Rattle.fabric.specs.Links.{route_or, upstream_route_of}
+use Rattle.fabric.specs.Tables.{rows_with}
 use Rattle.parents.specs.Parents.{router_at, parent_by, upstream_in, router_parent, is_xdomain, xdomain_parent, parent_of}
 use Rattle.parents.specs.Tables.{ParentIs}
 use Rattle.refusal.specs.declared.FieldError.{FieldError}
@@ -82,7 +83,7 @@ module _ (t : Tables) (p : ℕ) where
 
   pub parent_asked : (d : DeviceRow) → Tabled t → Some d ≡ device_in (devices_in t.devices.now) p → (r : Result (Option ℕ) Fault) → ParentIs t p (λ x. parent_of x p d) r
       → fault_outcome r ≡ bind (asked_device (rows_of t) p) (λ d. parent_of (rows_of t) p d)
-  unfolding rows_of asked_device present bind
+  unfolding rows_of rows_with asked_device present bind
   parent_asked d k e r h =
       let o : InOrder t = k.others in
-      h.is o (device_fits t p d o e) ∙ ap (λ (z : Option DeviceRow). bind (present z) (λ d. parent_of (rows_of t) p d)) e
+      h.is o (device_fits t p d o e) (entries_in t.entries.now) ∙ ap (λ (z : Option DeviceRow). bind (present z) (λ d. parent_of (rows_of t) p d)) e

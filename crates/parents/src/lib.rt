@@ -1,12 +1,13 @@
 // The parent of a device of a survey.
 #![tactic(auto)]
 
-ghost use Rattle.std.specs.Prelude.{◌≡◌};
+ghost use Rattle.std.specs.Prelude.{◌≡◌, List};
 ghost use Rattle.tables.specs.Packed.{device_row};
+ghost use Rattle.tables.specs.Rows.{EntryRow};
+ghost use Rattle.fabric.specs.Tables.{rows_with};
 ghost use Rattle.parents.specs.Parents.{router_parent, xdomain_parent, parent_of, parent_answer};
 ghost use Rattle.parents.specs.Tables.{ParentIs};
 ghost use Rattle.refusal.specs.Refusal.{fault_outcome, outcome};
-ghost use Rattle.tables.specs.Tables.{rows_of};
 
 use refusal::{Fault, FieldError, Refusal, Site};
 use tables::{DeviceFacts, Tables};
@@ -33,7 +34,7 @@ fn router_parent(tables: &Tables, place: usize, d: DeviceFacts) -> Result<Option
 
 // An xdomain's parent by its route.
 fn xdomain_parent(tables: &Tables, place: usize, d: DeviceFacts) -> Result<Option<usize>, Fault>
-    ensures { fault_outcome result ≡ xdomain_parent (rows_of tables.now) place (device_row place d) }
+    ensures { (es : List EntryRow) → fault_outcome result ≡ xdomain_parent (rows_with es tables.now) place (device_row place d) }
 {
     let site = Site { place, adapter: 0 };
     let route = route::upstream_route(d.route).ok_or(Fault::NoParentRoute(site))?;

@@ -18,6 +18,7 @@ use Rattle.orbit.specs.Walk.{Turn.ends as comes-to, hops_n, EndsAfter}
 use Rattle.orbit.proofs.Orbit.{Reached, reach_start, reach_on, reach_ends, reach_stops, reach_hops, length_hops, ends_once}
 use Rattle.fabric.specs.Fabric.{leads}
 use Rattle.fabric.specs.Tables.{LeadsTo, next_outcome}
+use Rattle.fabric.proofs.Laws.{leads_own}
 use Rattle.walk.specs.Walking.{End, End.path, End.no_path, End.fault, walk_on, turn_by}
 use Rattle.walk.proofs.Leading.{there_below, leads_there, upstreams}
 use Rattle.path.specs.Words.{hop_words, hops_words, path_words, words_needed}
@@ -180,7 +181,7 @@ module _ (tables : Tables) (s : Stand) (old : List ℕ) where
         module _ (t : Result Next WalkError) (l : LeadsTo tables (λ x. leads x p o) t) where
           hop_turn : (m : ℕ) → Makes tables s old m → (walk_in tables).next (stood p a h) (row p a h o g) ≡ turn_by (row p a h o g) (next_outcome t)
           unfolding walk_in walk_on rows_of
-          hop_turn m y = ap (turn_by _) (sym (l.leads_to (in_order y.tabled)))
+          hop_turn m y = ap (turn_by _) (sym (leads_own l (in_order y.tabled)))
 
           pub kept_on : (q b : ℕ) → g < 65536 → t ≡ Ok (next.On q b) → Kept tables s old (i + 1) q b g out'
           unfolding next_outcome turn_by
@@ -191,7 +192,7 @@ module _ (tables : Tables) (s : Stand) (old : List ℕ) where
             tail = two_tail out old i u v k.tail;
             wrote = λ m y. record {
               reached = reach_on (walk_in tables) s (k.wrote m y).reached (hop_here m y) (hop_turn m y ∙ ap (λ z. turn_by (row p a h o g) (next_outcome z)) x);
-              there = there_below tables q (leads_there (rows_of tables) (upstreams tables) p o q b (sym (l.leads_to (in_order y.tabled)) ∙ ap next_outcome x));
+              there = there_below tables q (leads_there (rows_of tables) (upstreams tables) p o q b (sym (leads_own l (in_order y.tabled)) ∙ ap next_outcome x));
               words = hop_written m y;
             };
           }

@@ -6,6 +6,8 @@ use mathlib.Core.Path.{◌≡◌, refl, sym, ap, ◌∙◌}
 use mathlib.Core.Bool.{Bool, true, false, cond, ◌&&◌}
 use mathlib.Core.List.{List, [], ◌∷◌}
 use native.Mathlib.Numerals.{add-one}
+use borrow.Author.Tests.{eq-eqb, ne_eqb}
+use lib.Dec.{eqb}
 use Rattle.std.specs.Prelude.{Option, None, Some, slice_get}
 use Rattle.std.proofs.Common.{Bor}
 use Rattle.std.specs.List.{position, position_from, HoldsAt}
@@ -13,21 +15,37 @@ use Rattle.std.specs.Option.{option_copied}
 use Rattle.std.specs.Slice.{IsItemAt}
 use Rattle.std.proofs.lemmas.Option.{slice_get_past}
 use Rattle.std.proofs.lemmas.Iterator.Adapters.{position_from-zero}
+use Rattle.usb4.specs.Numbers.{device_kind_number}
+use Rattle.usb4.specs.declared.Kind.TheVariants as kind
 use Rattle.tables.specs.declared.DeviceFacts.{DeviceFacts}
 use Rattle.tables.specs.Packed.{device_row, devices_from}
 use Rattle.tables.specs.Rows.{is_router, router_from}
 use Rattle.routers.specs.Work.{stands_at}
 
--- ---- `a && b && c`, test by test
-module _ (a b c : Bool) where
-  pub by_third : a ≡ true → b ≡ true → c ≡ (a && b && c)
-  by_third e f = rw (e, f) refl
+-- ---- a device's tests, the last first
+and_true : (a : Bool) → a ≡ (a && true)
+and_true true = refl
+and_true false = refl
 
-  pub by_second : (v : Bool) → a ≡ true → v ≡ b → v ≡ false → v ≡ (a && b && c)
-  by_second v e f g = rw (e, sym f ∙ g) g
+and_false : (a : Bool) → false ≡ (a && false)
+and_false true = refl
+and_false false = refl
 
-  pub by_first : (v : Bool) → a ≡ false → v ≡ false → v ≡ (a && b && c)
-  by_first v e g = rw e g
+module _ (domain route : ℕ) (d : DeviceFacts) (v : Bool) where
+  abbrev of_kind : Bool
+  of_kind = eqb (device_kind_number d.kind) (device_kind_number kind.Router)
+
+  pub by_kind : v ≡ of_kind → eqb d.domain domain ≡ true → d.route ≡ route → v ≡ stands_at domain route d
+  unfolding stands_at
+  by_kind e f g = rw (f, eq-eqb _ _ g) (e ∙ and_true of_kind ∙ and_true (of_kind && true))
+
+  pub by_domain : v ≡ eqb d.domain domain → v ≡ false → v ≡ stands_at domain route d
+  unfolding stands_at
+  by_domain e f = rw (sym e, f) (ap (λ x. x && eqb d.route route) (and_false of_kind))
+
+  pub by_route : (d.route ≡ route → ⊥) → v ≡ false → v ≡ stands_at domain route d
+  unfolding stands_at
+  by_route e f = rw (ne_eqb _ _ e, f) (and_false (of_kind && eqb d.domain domain))
 
 -- what `get` lends is the element
 pub lent_at : (ds : List DeviceFacts) (i : ℕ) (r : Option (Bor DeviceFacts)) → IsItemAt ds i r → option_copied r ≡ slice_get ds i

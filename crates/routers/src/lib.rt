@@ -21,7 +21,7 @@ pub fn find_device(tables: &Tables, place: usize) -> Option<DeviceFacts>
 fn stands_at(device: &DeviceFacts, domain: u32, route: u64) -> bool
     ensures { result ≡ stands_at domain route device.now }
 {
-    device.kind == Kind::Router && device.domain == domain && device.route == route
+    device.route == route && device.domain == domain && device.kind == Kind::Router
 }
 
 // The place of the first device that is a router of a domain at a route.

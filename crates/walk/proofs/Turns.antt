@@ -20,6 +20,7 @@ use Rattle.refusal.specs.declared.WalkError.TheVariants as walk
 use Rattle.refusal.proofs.Laws.{walk_bind, numbered}
 use Rattle.fabric.specs.Fabric.{Way, Way.on, Way.last, Way.dropped, leads}
 use Rattle.fabric.specs.Tables.{LeadsTo, next_outcome}
+use Rattle.fabric.proofs.Laws.{leads_own}
 use Rattle.orbit.specs.Walk.{Turn.ends as comes-to, Spot.ended, hops_n}
 use Rattle.orbit.proofs.Orbit.{Reached, reach_start, reach_on, reach_ends, reach_stops, reach_hops, reach_never, length_hops}
 use Rattle.walk.specs.Walking.{End, End.path, End.no_path, End.fault, turn_by, walk_on, path_of}
@@ -128,7 +129,7 @@ module _ (tables : Tables) (s : Stand) where
   turn : {n p a h out hop : ℕ} {w : Result Next WalkError} → Tabled tables → Hop tables s n p a h out hop → LeadsTo tables (λ x. leads x p out) w → (o : Outcome Way) → next_outcome w ≡ o
       → (walk_on (rows_of tables)).next (at p a h) (hop_row p a h out hop) ≡ turn_by (hop_row p a h out hop) o
   unfolding walk_on rows_of
-  turn t g q o e = ap (turn_by _) (sym (q.leads_to (in_order t)) ∙ e)
+  turn t g q o e = ap (turn_by _) (sym (leads_own q (in_order t)) ∙ e)
 
   leaving_next : {n p a h out hop : ℕ} → Hop tables s n p a h out hop → leaving_of (hops_n (walk_on (rows_of tables)) s (n + 1)) ≡ Some (record { hops = n + 1; place = p; adapter = out; hop_id = hop })
   unfolding leaving_by
@@ -140,7 +141,7 @@ module _ (tables : Tables) (s : Stand) where
   unfolding next_outcome turn_by
   hop_on {n} {p} {a} {h} {out} {hop} {q} {b} t g l e = record {
     reached = reach_on (walk_on (rows_of tables)) s g.reached g.found (turn t g l (value (on q b)) (ap next_outcome e));
-    below = omega (arith, t.others.devices, there_below tables q (leads_there (rows_of tables) (upstreams tables) p out q b (sym (l.leads_to (in_order t)) ∙ ap next_outcome e)));
+    below = omega (arith, t.others.devices, there_below tables q (leads_there (rows_of tables) (upstreams tables) p out q b (sym (leads_own l (in_order t)) ∙ ap next_outcome e)));
     leaving = leaving_next g;
   }
 

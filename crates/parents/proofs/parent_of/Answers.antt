@@ -5,12 +5,12 @@ use Rattle.parents.proofs.parent_of.Goals as goal
 
 pub returns-in-Router : goal.returns-in-Router
 unfolding device_row
-returns-in-Router c = record { is = λ k l. c.router_parent.ensures.is k l ∙ of_router _ _ _ c.in-Router.is }
+returns-in-Router c = record { is = λ k l es. c.router_parent.ensures.is k l es ∙ of_router _ _ _ c.in-Router.is }
 
 pub returns-in-Xdomain : goal.returns-in-Xdomain
 unfolding device_row
-returns-in-Xdomain c = record { is = λ k l. c.xdomain_parent.ensures ∙ of_xdomain _ _ _ c.in-Xdomain.is }
+returns-in-Xdomain c = record { is = λ k l es. c.xdomain_parent.ensures es ∙ of_xdomain _ _ _ c.in-Xdomain.is }
 
 pub returns-in_default : goal.returns-in_default
 unfolding device_row
-returns-in_default c = record { is = λ k l. of_other _ _ _ c.in_default.not-Router c.in_default.not-Xdomain }
+returns-in_default c = record { is = λ k l es. of_other _ _ _ c.in_default.not-Router c.in_default.not-Xdomain }
