@@ -114,6 +114,7 @@ impl Number for Speed {
 }
 
 // A number, or a refusal.
+#[tactic(auto, unfolding(crate::specs::Said::said, crate::specs::Said::padded, crate::specs::Said::always, refusal::specs::Outcome::bind))]
 pub fn always<N: Number>(answer: Result<N, Refusal>) -> [u64; 8]
     ensures { result ≡ said (always (λ n. one (N.value n)) (outcome answer)) }
 {
@@ -124,6 +125,7 @@ pub fn always<N: Number>(answer: Result<N, Refusal>) -> [u64; 8]
 }
 
 // A number that may be none or absent, or a refusal.
+#[tactic(auto, unfolding(crate::specs::Said::said, crate::specs::Said::padded, crate::specs::Said::perhaps, refusal::specs::Outcome::bind))]
 pub fn perhaps<N: Number>(answer: Result<Option<N>, Refusal>) -> [u64; 8]
     ensures { result ≡ said (perhaps (λ n. one (N.value n)) (outcome answer)) }
 {

@@ -11,7 +11,8 @@ pub fn min_hop(kind: AdapterType) -> Option<u32>
     ensures { result ≡ min_hop kind }
 {
     match kind {
-        AdapterType::Unknown | AdapterType::Inactive => None,
+        AdapterType::Unknown => None,
+        AdapterType::Inactive => None,
         AdapterType::HostInterface => Some(1),
         _ => Some(8),
     }

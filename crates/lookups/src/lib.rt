@@ -1,7 +1,7 @@
 // What the exported calls answer, in eight words: whether description or survey words are well formed, and our descriptions.
 #![tactic(auto)]
 
-ghost use Rattle.std.specs.Prelude.{◌≡◌};
+ghost use Rattle.std.specs.Prelude.{◌≤◌, ◌≡◌, ◌++◌, length, drop};
 ghost use Rattle.answers.specs.Said.{said, always, bare};
 ghost use Rattle.lookups.specs.Handed.{HandedOut, OursSaid};
 ghost use Rattle.refusal.specs.Refusal.{outcome};
@@ -9,6 +9,7 @@ ghost use Rattle.refusal.specs.Refusal.{outcome};
 use refusal::Refusal;
 
 // Whether words, of descriptions or of a survey, are well formed.
+#[tactic(auto, unfolding(answers::specs::Said::said, answers::specs::Said::padded, answers::specs::Said::always, refusal::specs::Outcome::bind))]
 pub fn checked(answer: Result<(), Refusal>) -> [u64; 8]
     ensures { result ≡ said (always bare (outcome answer)) }
 {
@@ -18,6 +19,14 @@ pub fn checked(answer: Result<(), Refusal>) -> [u64; 8]
     }
 }
 
+// Puts all words of a list at the front of another that has room for them.
+fn copy(from: &[u32], to: &mut [u32])
+    requires { length from.now ≤ length to.old }
+    ensures { to.new ≡ from.now ++ drop (length from.now) to.old }
+{
+    to[..from.len()].copy_from_slice(from);
+}
+
 // Puts all words of a list at the front of another, if it has room for them, and says how many there are.
 fn put(from: &[u32], to: &mut [u32]) -> [u64; 8]
     ensures { HandedOut from.now to.old to.new result }
@@ -25,7 +34,7 @@ fn put(from: &[u32], to: &mut [u32]) -> [u64; 8]
     if to.len() < from.len() {
         return [2, from.len() as u64, 0, 0, 0, 0, 0, 0];
     }
-    to[..from.len()].copy_from_slice(from);
+    copy(from, to);
     [0, 1, from.len() as u64, 0, 0, 0, 0, 0]
 }
 

@@ -34,6 +34,7 @@ fn stands_at(t: &[u32], place: usize) -> bool
 }
 
 // The group that names a register, nameless, or refused (3).
+#[tactic(auto, unfolding(crate::specs::Calls::describe_answer, description::specs::Rules::read_descriptions), using(refusal::proofs::Laws::refused_bind))]
 pub fn describe(descriptions: &[u32], q: Sought) -> Result<Option<usize>, Refusal>
     ensures { outcome result ≡ describe_answer descriptions.now q }
 {
@@ -71,6 +72,7 @@ fn field_at(descriptions: &[u32], place: usize, value: u32, name: &[u8]) -> Resu
 }
 
 // A field by name, or by short name, of the register group at a place; refused (3), or 6 alone where no register group stands there or it lacks the field.
+#[tactic(auto, unfolding(crate::specs::Calls::field_answer, description::specs::Rules::read_descriptions), using(refusal::proofs::Laws::refused_bind))]
 pub fn field(descriptions: &[u32], place: usize, value: u32, name: &[u8]) -> Result<u32, Refusal>
     ensures { outcome result ≡ field_answer descriptions.now place value name.now }
 {

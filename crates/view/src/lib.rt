@@ -16,14 +16,19 @@ pub struct View<'a> {
 }
 
 // Where the group of the device at a place stands; refused where the words are (4), then where there is no such device (14).
+#[tactic(auto, unfolding(crate::specs::View::group_place), using(refusal::proofs::Laws::refused_bind))]
 pub fn stand_of(survey: &[u32], place: usize) -> Result<Bounds, Refusal>
     ensures { outcome result ≡ group_place survey.now place }
 {
     wellformed::check(survey)?;
-    places::device_group(survey, place).ok_or(Refusal::Missing)
+    let Some(bounds) = places::device_group(survey, place) else {
+        return Err(Refusal::Missing);
+    };
+    Ok(bounds)
 }
 
 // The words of the group of the device at a place; none where its place is refused.
+#[tactic(auto, unfolding(crate::specs::View::group_words, crate::specs::View::words_by))]
 pub fn words_of<'a>(survey: &'a [u32], place: usize) -> &'a [u32]
     ensures { result.now ≡ group_words survey.now place }
 {

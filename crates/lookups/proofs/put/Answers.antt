@@ -1,7 +1,5 @@
 use Rattle.lookups.proofs.Laws.{too_short, all_handed}
-use lib.ListN.{length, drop}
-use mathlib.Core.List.{◌++◌}
-use mathlib.Core.Path.{refl, ap}
+use mathlib.Core.Path.{refl}
 use Rattle.answers.specs.Said.{said, padded, one}
 use Rattle.lookups.proofs.put.Goals as goal
 
@@ -12,4 +10,4 @@ returns-then-to-from c = too_short _ _ _ c.if-to-from.true refl
 
 pub returns : goal.returns
 unfolding said padded one
-returns c = all_handed _ _ _ c.if-to-from.false _ (ap (λ w. w ++ drop (length c.args.from.now) c.args.to.now) c.copy_from_slice.ensures.after) refl
+returns c = all_handed _ _ _ c.if-to-from.false _ c.copy.ensures refl
