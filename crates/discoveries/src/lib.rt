@@ -3,6 +3,7 @@
 
 ghost use Rattle.discoveries.specs.Calls.{DiscoverDone};
 
+use load::Loaded;
 use refusal::{Refusal, Site};
 
 // The tunnels from an adapter of the device at a place, as result words: how many, or the words needed (2); or no list.
@@ -14,7 +15,8 @@ pub fn discover(
 ) -> Result<Option<usize>, Refusal>
     ensures { DiscoverDone descriptions.now survey.now site.place site.adapter output.old result output.new }
 {
-    let loaded = load::load(descriptions, survey);
+    let mut loaded = Loaded::none();
+    loaded.load(descriptions, survey);
     let tables = loaded.tables()?;
     discovery::discover_in(&tables, site, output)
 }

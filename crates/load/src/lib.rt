@@ -2,7 +2,7 @@
 #![tactic(auto)]
 
 ghost use Rattle.std.specs.Prelude.{ℕ, ◌+◌, ◌*◌, ◌≤◌, ◌<◌, ◌≡◌, List, [], ◌∷◌, length, IfOk};
-ghost use Rattle.refusal.specs.Outcome.{value, bind};
+ghost use Rattle.refusal.specs.Outcome.{refused, value, bind};
 ghost use Rattle.refusal.specs.declared.Site.{Site};
 ghost use Rattle.layout.specs.Description.{Description, descriptions_of};
 ghost use Rattle.usb4.specs.Numbers.{type_number};
@@ -63,6 +63,17 @@ impl LoadedRows {
         ensures { result ≡ counts_of self.now }
     {
         self.counts
+    }
+
+    // Leaves no rows.
+    fn clear(&mut self)
+        ensures { self.new ≡ no_rows }
+    {
+        self.counts = Counts {
+            entries: 0,
+            adapters: 0,
+            devices: 0,
+        };
     }
 
     // Each of these puts a row behind the others of its kind.
@@ -135,6 +146,40 @@ impl Model for Loaded {
 }
 
 impl Loaded {
+    // No survey yet: 14, and room for the tables of any.
+    #[inline(always)]
+    pub fn none() -> Self
+        ensures { result ≡ refused 14 [] }
+    {
+        Loaded {
+            answer: Err(Refusal::Missing),
+            rows: LoadedRows {
+                counts: Counts {
+                    entries: 0,
+                    adapters: 0,
+                    devices: 0,
+                },
+                entries: [0; 4096],
+                adapters: [0; 16384],
+                devices: [DeviceFacts {
+                    kind: Kind::Domain,
+                    usb4: false,
+                    domain: 0,
+                    route: 0,
+                    upstream: Ok(None),
+                }; 4096],
+            },
+        }
+    }
+
+    // A survey in place of what was loaded before. As `load`, but into room that the caller has: nothing is copied then, also where the tables are lent to a call.
+    pub fn load(&mut self, descriptions: &[u32], survey: &[u32])
+        ensures { self.new ≡ loaded descriptions.now survey.now }
+    {
+        self.rows.clear();
+        self.answer = load_into(descriptions, survey, &mut self.rows);
+    }
+
     // The tables that the survey loads to, or why it is refused.
     pub fn tables(&self) -> Result<Tables<'_>, Refusal>
         ensures rows { tables_rows result ≡ self.now }
@@ -147,10 +192,10 @@ impl Loaded {
 
 // The fields of path registers with these ids.
 #[derive(Clone, Copy)]
-struct Kept {
-    ids: u32,
-    vs: u32,
-    fields: EntryFields,
+pub struct Kept {
+    pub ids: u32,
+    pub vs: u32,
+    pub fields: EntryFields,
 }
 
 // An entry as a word.
@@ -507,7 +552,7 @@ fn fill(descriptions: &[u32], survey: &[u32], rows: &mut LoadedRows) -> Result<(
 }
 
 // 3, then 4, then loading.
-// It stays a call: `load` is then small enough to be taken into its callers, and hands out tables without a copy (10.7 us where it is 22, a survey of 101 words and one search).
+// It stays a call: both `load` are then small enough to be taken into their callers, and the tables are where they are used (10.7 us where it is 22, a survey of 101 words and one search).
 #[inline(never)]
 fn load_into(descriptions: &[u32], survey: &[u32], rows: &mut LoadedRows) -> Result<(), Refusal>
     requires { rows.old ≡ no_rows }
@@ -523,26 +568,8 @@ fn load_into(descriptions: &[u32], survey: &[u32], rows: &mut LoadedRows) -> Res
 pub fn load(descriptions: &[u32], survey: &[u32]) -> Loaded
     ensures { result ≡ loaded descriptions.now survey.now }
 {
-    let mut loaded = Loaded {
-        answer: Err(Refusal::Missing),
-        rows: LoadedRows {
-            counts: Counts {
-                entries: 0,
-                adapters: 0,
-                devices: 0,
-            },
-            entries: [0; 4096],
-            adapters: [0; 16384],
-            devices: [DeviceFacts {
-                kind: Kind::Domain,
-                usb4: false,
-                domain: 0,
-                route: 0,
-                upstream: Ok(None),
-            }; 4096],
-        },
-    };
-    loaded.answer = load_into(descriptions, survey, &mut loaded.rows);
+    let mut loaded = Loaded::none();
+    loaded.load(descriptions, survey);
     loaded
 }
 

@@ -9,6 +9,7 @@ ghost use Rattle.parents.specs.Parents.{router_parent, xdomain_parent, parent_of
 ghost use Rattle.parents.specs.Tables.{ParentIs};
 ghost use Rattle.refusal.specs.Refusal.{fault_outcome, outcome};
 
+use load::Loaded;
 use refusal::{Fault, FieldError, Refusal, Site};
 use tables::{DeviceFacts, Tables};
 use usb4::Kind;
@@ -61,7 +62,8 @@ pub fn parent_from(
 ) -> Result<Option<usize>, Refusal>
     ensures { outcome result ≡ parent_answer descriptions.now survey.now place }
 {
-    let loaded = load::load(descriptions, survey);
+    let mut loaded = Loaded::none();
+    loaded.load(descriptions, survey);
     let tables = loaded.tables()?;
     let d = routers::find_device(&tables, place).ok_or(Refusal::Missing)?;
     Ok(parent_of(&tables, place, d)?)

@@ -3,6 +3,7 @@
 
 ghost use Rattle.walks.specs.Calls.{WalkDone};
 
+use load::Loaded;
 use path::PathName;
 use refusal::Refusal;
 use tables::Stand;
@@ -16,7 +17,8 @@ pub fn discover_path(
 ) -> Result<Option<usize>, Refusal>
     ensures { WalkDone descriptions.now survey.now stand output.old result output.new }
 {
-    let loaded = load::load(descriptions, survey);
+    let mut loaded = Loaded::none();
+    loaded.load(descriptions, survey);
     let tables = loaded.tables()?;
     let Some(_) = routers::find_device(&tables, stand.place) else {
         return Err(Refusal::Missing);

@@ -11,21 +11,21 @@ use Rattle.parents.proofs.parent_from.Goals as goal
 pub returns-in_err-tables : goal.returns-in_err-tables
 unfolding parent_answer
 returns-in_err-tables c = let p = err_from_is_err_and c.from_residual.result c.from_residual.ensures.1 in
-    rw (p.1, p.2) (tables_ended _ _ (c.tables.ensures.rows ∙ c.load-loaded.ensures) _ _ c.in_err-tables.was)
+    rw (p.1, p.2) (tables_ended _ _ (c.tables.ensures.rows ∙ c.load.ensures) _ _ c.in_err-tables.was)
 
 pub returns-in_err-d : goal.returns-in_err-d
 unfolding parent_answer device_found
 returns-in_err-d c = let p = err_from_is_err_and c.from_residual-in_err-d.result c.from_residual-in_err-d.ensures.1 in
     let m = missing _ _ _ c.ok_or.ensures.value _ c.in_err-d.was in
-    rw (p.1, p.2, m.1) (none_asked _ _ (sym (ap (device_found _) m.0) ∙ c.find_device.ensures) ∙ sym (tables_gone_on _ _ (c.tables.ensures.rows ∙ c.load-loaded.ensures) _ _ c.in_ok-tables.was))
+    rw (p.1, p.2, m.1) (none_asked _ _ (sym (ap (device_found _) m.0) ∙ c.find_device.ensures) ∙ sym (tables_gone_on _ _ (c.tables.ensures.rows ∙ c.load.ensures) _ _ c.in_ok-tables.was))
 
 pub returns-in_err-parent_of : goal.returns-in_err-parent_of
 unfolding parent_answer device_found
 returns-in_err-parent_of c = let p = err_from_is_err_and c.from_residual-in_err-parent_of.result c.from_residual-in_err-parent_of.ensures.1 in
     let t = (tables_fit _ _ c.in_ok-tables.was c.tables.ensures.fits).1 in
-    rw (p.1, p.2) (sym (ap fault_outcome c.in_err-parent_of.was) ∙ parent_asked _ _ _ t (sym (ap (device_found _) (there _ _ _ c.ok_or.ensures.value _ c.in_ok-d.was)) ∙ c.find_device.ensures) _ c.parent_of.ensures ∙ sym (tables_gone_on _ _ (c.tables.ensures.rows ∙ c.load-loaded.ensures) _ _ c.in_ok-tables.was))
+    rw (p.1, p.2) (sym (ap fault_outcome c.in_err-parent_of.was) ∙ parent_asked _ _ _ t (sym (ap (device_found _) (there _ _ _ c.ok_or.ensures.value _ c.in_ok-d.was)) ∙ c.find_device.ensures) _ c.parent_of.ensures ∙ sym (tables_gone_on _ _ (c.tables.ensures.rows ∙ c.load.ensures) _ _ c.in_ok-tables.was))
 
 pub returns : goal.returns
 unfolding parent_answer device_found
 returns c = let t = (tables_fit _ _ c.in_ok-tables.was c.tables.ensures.fits).1 in
-    sym (ap fault_outcome c.in_ok-parent_of.was) ∙ parent_asked _ _ _ t (sym (ap (device_found _) (there _ _ _ c.ok_or.ensures.value _ c.in_ok-d.was)) ∙ c.find_device.ensures) _ c.parent_of.ensures ∙ sym (tables_gone_on _ _ (c.tables.ensures.rows ∙ c.load-loaded.ensures) _ _ c.in_ok-tables.was)
+    sym (ap fault_outcome c.in_ok-parent_of.was) ∙ parent_asked _ _ _ t (sym (ap (device_found _) (there _ _ _ c.ok_or.ensures.value _ c.in_ok-d.was)) ∙ c.find_device.ensures) _ c.parent_of.ensures ∙ sym (tables_gone_on _ _ (c.tables.ensures.rows ∙ c.load.ensures) _ _ c.in_ok-tables.was)

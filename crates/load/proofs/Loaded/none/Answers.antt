@@ -1,0 +1,13 @@
+use native.Mathlib.Omega.{arith}
+use mathlib.Core.Path.{refl}
+use Rattle.refusal.specs.Outcome.{bind}
+use Rattle.load.specs.Answers.{LoadedBy}
+use Rattle.load.proofs.Loaded.none.Goals as goal
+
+pub invariant_of-result-2 : goal.invariant_of-result-2
+unfolding LoadedBy
+invariant_of-result-2 c = omega arith
+
+pub returns : goal.returns
+unfolding bind
+returns c = refl
