@@ -15,6 +15,7 @@ pub struct Acceptance {
 }
 
 // Whether a survey is accepted, and how many devices and valid path entries it has.
+#[tactic(auto, using(crate::proofs::Laws::by_counts, refusal::proofs::Laws::refused_bind))]
 pub fn accepted(descriptions: &[u32], survey: &[u32]) -> Result<Acceptance, Refusal>
     ensures { outcome result ≡ accepted_answer descriptions.now survey.now }
 {

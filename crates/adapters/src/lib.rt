@@ -71,6 +71,7 @@ pub fn link_speed(descriptions: &[u32], survey: &[u32], site: Site) -> Result<Sp
 }
 
 // The largest HopID, or 6.
+#[tactic(auto, unfolding(crate::specs::Calls::max_hop_answer, crate::specs::Work::row_outcome, adapter::specs::Adapter::facts_row, refusal::specs::Outcome::bind))]
 pub fn max_hop(descriptions: &[u32], survey: &[u32], site: Site) -> Result<Option<u32>, Refusal>
     ensures { outcome result ≡ max_hop_answer descriptions.now survey.now site.place site.adapter }
 {

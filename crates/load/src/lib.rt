@@ -554,6 +554,7 @@ fn fill(descriptions: &[u32], survey: &[u32], rows: &mut LoadedRows) -> Result<(
 // 3, then 4, then loading.
 // It stays a call: both `load` are then small enough to be taken into their callers, and the tables are where they are used (10.7 us where it is 22, a survey of 101 words and one search).
 #[inline(never)]
+#[tactic(auto, unfolding(crate::specs::Loading::loaded, description::specs::Rules::read_descriptions), using(refusal::proofs::Laws::refused_bind))]
 fn load_into(descriptions: &[u32], survey: &[u32], rows: &mut LoadedRows) -> Result<(), Refusal>
     requires { rows.old ≡ no_rows }
     ensures { answered (outcome result) rows.new ≡ loaded descriptions.now survey.now }

@@ -18,7 +18,7 @@ use Rattle.tunnel.specs.Words.{tunnels_words}
 use Rattle.discovery.specs.Answers.{discover_at, in_room, output_by}
 use Rattle.discovery.specs.Tables.{Discovered}
 use Rattle.report.specs.Report.{words_by, answer_of}
-use Rattle.report.specs.Work.{words_outcome, Answered}
+use Rattle.report.specs.Work.{size_of, words_outcome, Answered}
 use Rattle.refusal.specs.Refusal.{outcome}
 use Rattle.tables.specs.declared.Tables.{Tables}
 use Rattle.tables.specs.Tables.{rows_of}
@@ -94,3 +94,11 @@ module _ (tables : Tables) (i : ℕ) (out : List ℕ) (l : length out ≡ 16384)
     within = λ m f. absurd (let z : ◌≡◌ {A = ℕ} 0 1 = cc in omega arith);
     met = λ m f. d.met m (e ∙ (let z : q ≡ m = cc in ap Err z));
   }
+
+  pub in_answer : Answered tables i (size_of r) out'
+  unfolding size_of
+  in_answer = go r refl
+    where
+      go : (q : Result (Option ℕ) Refusal) → r ≡ q → Answered tables i (size_of q) out'
+      go (Ok o) e = in_words o e
+      go (Err q) e = in_refusal q e

@@ -3,7 +3,7 @@
 
 ghost use Rattle.std.specs.Prelude.{◌<◌, ◌≡◌, true, false, length};
 ghost use Rattle.report.specs.Tables.{Tries, Paged};
-ghost use Rattle.report.specs.Work.{Answered};
+ghost use Rattle.report.specs.Work.{Answered, size_of};
 ghost use Rattle.tables.specs.Tables.{Fits};
 
 use refusal::{Refusal, Site};
@@ -32,6 +32,14 @@ fn larger(tables: &Tables) -> bool
     MOST_DEVICES < tables.devices.len()
 }
 
+// How many words an adapter's answer has; absent and an empty list have none.
+#[tactic(auto, unfolding(crate::specs::Work::size_of))]
+fn size_of(found: Result<Option<usize>, Refusal>) -> Result<usize, Refusal>
+    ensures { result ≡ size_of found }
+{
+    Ok(found?.unwrap_or(0))
+}
+
 // The result words of the adapter at an index of the table.
 fn answer_at(tables: &Tables, index: usize, words: &mut [u32]) -> Result<usize, Refusal>
     requires { (index < length tables.now.adapters.now) × (length words.old ≡ 16384) }
@@ -43,8 +51,7 @@ fn answer_at(tables: &Tables, index: usize, words: &mut [u32]) -> Result<usize, 
         adapter: (word / 1099511627776 % 256) as u8,
     };
     let found = discovery::discover_in(tables, site, words);
-    let count = found?;
-    Ok(count.unwrap_or(0))
+    size_of(found)
 }
 
 // Tries each adapter in order; how many tunnels there are in all, or the first refusal.

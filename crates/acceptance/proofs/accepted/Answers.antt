@@ -1,15 +1,9 @@
 use Rattle.std.proofs.lemmas.Result.{err_from_is_err_and}
-use Rattle.refusal.specs.Outcome.{Outcome, value}
 use Rattle.load.specs.Answers.{counts_of}
-use Rattle.load.specs.declared.Counts.{Counts}
 use Rattle.load.proofs.Result.{accept_ended, accept_gone_on}
 use Rattle.acceptance.specs.Accepted.{accepted_answer}
-use Rattle.acceptance.specs.declared.Acceptance.{Acceptance}
+use Rattle.acceptance.proofs.Laws.{said}
 use Rattle.acceptance.proofs.accepted.Goals as goal
-
--- of the numbers of rows, those that are said
-abbrev said : Counts → Outcome Acceptance
-said c = value (record { devices = c.devices; entries = c.entries })
 
 pub returns-in_err-counts : goal.returns-in_err-counts
 unfolding accepted_answer counts_of
