@@ -87,7 +87,7 @@ unfolding each
 each_long f zero = refl
 each_long f (suc n) = length-append (each f n) (f n ∷ []) ∙ omega (arith, each_long f n)
 
-put_within : (ws out : List ℕ) → length ws ≤ length out → put ws out ≡ ws ++ drop (length ws) out
+pub put_within : (ws out : List ℕ) → length ws ≤ length out → put ws out ≡ ws ++ drop (length ws) out
 unfolding put
 put_within [] out h = refl
 put_within (w ∷ ws) [] h = absurd (omega arith)

@@ -1,5 +1,5 @@
 -- Cases of stored answers: the bytes and the words of a line, how many lines agree, and what is printed of that. Assumes nothing.
-use Rattle.std.specs.Prelude.{ℕ, zero, suc, ◌+◌, ◌-◌, ◌/◌, ◌%◌, ◌≡◌, ◌<◌, ◌≤◌, Bool, true, false, cond, ◌&&◌, List, [], ◌∷◌, ◌++◌, eqb, leb, length, get_or, Option, None, Some}
+use Rattle.std.specs.Prelude.{ℕ, zero, suc, ◌+◌, ◌-◌, ◌/◌, ◌%◌, ◌≡◌, ◌<◌, ◌≤◌, Bool, true, false, cond, ◌&&◌, List, [], ◌∷◌, ◌++◌, eqb, leb, ltb, length, get_or, Option, None, Some}
 use Rattle.std.specs.Io.KnownBytes.{Consumes, IsAtEnd}
 use Rattle.std.specs.Fmt.{decimal}
 use Rattle.std.specs.List.{concat}
@@ -90,10 +90,10 @@ unfoldable pub one_more : Totals → Bool → Totals
 one_more t true = record { cases = t.cases + 1; differ = t.differ; first = t.first }
 one_more t false = record { cases = t.cases + 1; differ = t.differ + 1; first = cond (eqb t.differ 0) (t.cases + 1) t.first }
 
--- t' are the totals after these lines, of which what P allows was answered, one after another, from a on to z
-abbrev pub Counts : {S : Type 0} → (S → List ℕ → Bool → S → Type 0) → S → List (List ℕ) → Totals → S → Totals → Type 0
-Counts P a [] t z t' = (z ≡ a) × (t' ≡ t)
-Counts {S} P a (l ∷ ls) t z t' = (b : Bool) × (m : S) × P a l b m × Counts P m ls (one_more t b) z t'
+-- t' are the totals after these lines of a text of n bytes, of which what P allows was answered, one after another, from a on to z; LF ends a line where a byte follows it
+abbrev pub Counts : {S : Type 0} → (S → List ℕ → Bool → Bool → S → Type 0) → S → List (List ℕ) → ℕ → Totals → S → Totals → Type 0
+Counts P a [] n t z t' = (z ≡ a) × (t' ≡ t)
+Counts {S} P a (l ∷ ls) n t z t' = (b : Bool) × (m : S) × P a l (ltb (length l) n) b m × Counts P m ls (n - (length l + 1)) (one_more t b) z t'
 
 -- what is printed of a file that isn't there, and of one that is too long
 unfoldable pub missing_line : List ℕ → List ℕ
@@ -107,9 +107,9 @@ unfoldable pub totals_line : List ℕ → Totals → List ℕ
 totals_line name t = concat (name ∷ bytes_of " " ∷ decimal t.cases ∷ bytes_of " agree " ∷ decimal (t.cases - t.differ) ∷ bytes_of " differ " ∷ decimal t.differ ∷ bytes_of " at " ∷ decimal t.first ∷ bytes_of "\n" ∷ [])
 
 -- what is printed of a file of which these bytes are known: they are read, and each line is a case
-pub record Replayed {S : Type 0} (P : S → List ℕ → Bool → S → Type 0) (a z : S) (name : List ℕ) (known : Option (List ℕ)) (Prints : List ℕ → Type 0) : Type 0 where
+pub record Replayed {S : Type 0} (P : S → List ℕ → Bool → Bool → S → Type 0) (a z : S) (name : List ℕ) (known : Option (List ℕ)) (Prints : List ℕ → Type 0) : Type 0 where
   pub text : List ℕ
   pub rest : Option (List ℕ)
   pub read : Consumes known rest text
-  pub whole : length text < 1000000 → IsAtEnd rest × ((t : Totals) × Counts P a (lines text) no_cases z t × Prints (totals_line name t))
+  pub whole : length text < 1000000 → IsAtEnd rest × ((t : Totals) × Counts P a (lines text) (length text) no_cases z t × Prints (totals_line name t))
   pub long : 1000000 ≤ length text → (z ≡ a) × Prints (long_line name)

@@ -9,12 +9,12 @@ use std::io::{Read, Write};
 
 // A program that compares answers, with what it keeps from case to case.
 pub trait Compare {
-    // What it may answer of a line, and what it keeps then; by default nothing is said of it.
-    ghost answers: { Self → List ℕ → Bool → Self → Type 0 } = { λ before line agrees after. ⊤ };
+    // What it may answer of a line, which LF ends or not, and what it keeps then; by default nothing is said of it.
+    ghost answers: { Self → List ℕ → Bool → Bool → Self → Type 0 } = { λ before line ended agrees after. ⊤ };
 
-    // Whether the case that the line holds agrees.
-    fn agrees(&mut self, line: &[u8]) -> bool
-        ensures { answers self.old line.now result self.new };
+    // Whether the case that the line holds agrees. The last line of a file may have no LF.
+    fn agrees(&mut self, line: &[u8], ended: bool) -> bool
+        ensures { answers self.old line.now ended result self.new };
 }
 
 // `first` is the line of the first case that differs, from 1 on; 0 where all agree.
@@ -44,7 +44,7 @@ fn counted(t: Totals, agrees: bool) -> Totals
 
 fn count<C: Compare>(text: &[u8], of: &mut C) -> Totals
     requires { length text.now < 1000000 }
-    ensures counts { Counts C.answers of.old (lines text.now) no_cases of.new result }
+    ensures counts { Counts C.answers of.old (lines text.now) (length text.now) no_cases of.new result }
     ensures differ { result.differ ≤ result.cases }
 {
     let mut t = Totals {
@@ -55,7 +55,7 @@ fn count<C: Compare>(text: &[u8], of: &mut C) -> Totals
     let mut start = 0;
     while start < text.len() {
         let end = scan::line_end(text, start);
-        t = counted(t, of.agrees(&text[start..end]));
+        t = counted(t, of.agrees(&text[start..end], end < text.len()));
         start = end + 1;
     }
     t

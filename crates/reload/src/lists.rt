@@ -1,15 +1,15 @@
 // Whether a discovery answers what the words of a case say, and leaves its output as it should. oracle/make-discoveries says what questions and answers are.
 use crate::loads::Survey;
-use crate::words::{after_written, kept, mark, refuses, value};
+use crate::words::{after_written, kept, mark, number, refuses, value};
 use refusal::Site;
 
 // A discovery into an output whose words are marked first.
 fn after_list<'a>(
-    rest: &'a [u32],
+    rest: &'a [u8],
     of: Survey<'_>,
     site: Site,
     output: &mut [u32],
-) -> Option<&'a [u32]> {
+) -> Option<&'a [u8]> {
     mark(output);
     let answer = discoveries::discover(of.descriptions, of.words, site, output);
     let written = match answer {
@@ -21,10 +21,10 @@ fn after_list<'a>(
 }
 
 // The room stands first, and then the answer.
-pub fn after_discovery<'a>(rest: &'a [u32], of: Survey<'_>, site: Site) -> Option<&'a [u32]> {
+pub fn after_discovery<'a>(rest: &'a [u8], of: Survey<'_>, site: Site) -> Option<&'a [u8]> {
     let mut output = [0u32; 16400];
-    let (room, rest) = rest.split_first()?;
-    after_list(rest, of, site, output.get_mut(..*room as usize)?)
+    let (room, rest) = number(rest)?;
+    after_list(rest, of, site, output.get_mut(..room as usize)?)
 }
 
 // Whether a discovery is refused with that word.

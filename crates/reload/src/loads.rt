@@ -1,7 +1,7 @@
 // Whether the calls on a survey answer what the words of a case say. oracle/make-loads says what questions and answers are.
 use crate::lists::{after_discovery, discovery_refuses};
 use crate::starts::{after_walk, walk_refuses};
-use crate::words::{after, refuses, value};
+use crate::words::{after, number, refuses, value};
 use acceptance::Acceptance;
 use adapter::{EntryOut, Part};
 use adapters::AdapterInfo;
@@ -72,14 +72,14 @@ fn adapter_words(a: AdapterInfo) -> [u32; 2] {
     [value(codes + flags), least]
 }
 
-fn after_accepted<'a>(rest: &'a [u32], of: Survey<'_>) -> Option<&'a [u32]> {
+fn after_accepted<'a>(rest: &'a [u8], of: Survey<'_>) -> Option<&'a [u8]> {
     after(
         rest,
         acceptance::accepted(of.descriptions, of.words).map(|a| Some(accepted_words(a))),
     )
 }
 
-fn after_device<'a>(rest: &'a [u32], of: Survey<'_>, place: usize) -> Option<&'a [u32]> {
+fn after_device<'a>(rest: &'a [u8], of: Survey<'_>, place: usize) -> Option<&'a [u8]> {
     let device = devices::device(of.descriptions, of.words, place);
     let upstream = devices::upstream_adapter(of.descriptions, of.words, place);
     let parent = parents::parent_from(of.descriptions, of.words, place);
@@ -88,12 +88,12 @@ fn after_device<'a>(rest: &'a [u32], of: Survey<'_>, place: usize) -> Option<&'a
     after(rest, parent.map(|p| p.map(|p| [value(p as u64)])))
 }
 
-fn after_cap<'a>(rest: &'a [u32], of: Survey<'_>, site: Site, cap: u32) -> Option<&'a [u32]> {
+fn after_cap<'a>(rest: &'a [u8], of: Survey<'_>, site: Site, cap: u32) -> Option<&'a [u8]> {
     let found = capabilities::capability(of.descriptions, of.words, site, cap);
     after(rest, found.map(|part| part.map(part_words)))
 }
 
-fn after_adapter<'a>(rest: &'a [u32], of: Survey<'_>, site: Site) -> Option<&'a [u32]> {
+fn after_adapter<'a>(rest: &'a [u8], of: Survey<'_>, site: Site) -> Option<&'a [u8]> {
     let adapter = adapters::adapter(of.descriptions, of.words, site);
     let speed = adapters::link_speed(of.descriptions, of.words, site);
     let most = adapters::max_hop(of.descriptions, of.words, site);
@@ -109,7 +109,7 @@ fn after_adapter<'a>(rest: &'a [u32], of: Survey<'_>, site: Site) -> Option<&'a 
     after(rest, down.map(|r| r.map(route_words)))
 }
 
-fn after_entry<'a>(rest: &'a [u32], of: Survey<'_>, site: Site, hop: u16) -> Option<&'a [u32]> {
+fn after_entry<'a>(rest: &'a [u8], of: Survey<'_>, site: Site, hop: u16) -> Option<&'a [u8]> {
     let stand = Stand {
         place: site.place,
         adapter: site.adapter,
@@ -159,12 +159,12 @@ fn adapters_refuse(of: Survey<'_>, site: Site, word: u32) -> bool {
 }
 
 // Every call gives the refusal that stands next.
-fn after_every<'a>(rest: &'a [u32], of: Survey<'_>, site: Site) -> Option<&'a [u32]> {
-    let (word, rest) = rest.split_first()?;
-    if devices_refuse(of, site, *word)
-        && adapters_refuse(of, site, *word)
-        && walk_refuses(of, site, *word)
-        && discovery_refuses(of, site, *word)
+fn after_every<'a>(rest: &'a [u8], of: Survey<'_>, site: Site) -> Option<&'a [u8]> {
+    let (word, rest) = number(rest)?;
+    if devices_refuse(of, site, word)
+        && adapters_refuse(of, site, word)
+        && walk_refuses(of, site, word)
+        && discovery_refuses(of, site, word)
     {
         Some(rest)
     } else {
@@ -173,23 +173,23 @@ fn after_every<'a>(rest: &'a [u32], of: Survey<'_>, site: Site) -> Option<&'a [u
 }
 
 // What follows the question and its answers.
-fn after_question<'a>(rest: &'a [u32], of: Survey<'_>) -> Option<&'a [u32]> {
-    let (question, rest) = rest.split_first()?;
+fn after_question<'a>(rest: &'a [u8], of: Survey<'_>) -> Option<&'a [u8]> {
+    let (question, rest) = number(rest)?;
     let site = Site {
-        place: (*question / 256 % 1048576) as usize,
-        adapter: (*question % 256) as u8,
+        place: (question / 256 % 1048576) as usize,
+        adapter: (question % 256) as u8,
     };
-    match *question / 268435456 {
+    match question / 268435456 {
         0 => after_accepted(rest, of),
         1 => after_device(rest, of, site.place),
         2 => after_adapter(rest, of, site),
         3 => {
-            let (hop, rest) = rest.split_first()?;
-            after_entry(rest, of, site, (*hop % 65536) as u16)
+            let (hop, rest) = number(rest)?;
+            after_entry(rest, of, site, (hop % 65536) as u16)
         }
         4 => {
-            let (cap, rest) = rest.split_first()?;
-            after_cap(rest, of, site, *cap)
+            let (cap, rest) = number(rest)?;
+            after_cap(rest, of, site, cap)
         }
         5 => after_every(rest, of, site),
         6 => after_walk(rest, of, site),
@@ -198,8 +198,8 @@ fn after_question<'a>(rest: &'a [u32], of: Survey<'_>) -> Option<&'a [u32]> {
     }
 }
 
-// Whether all questions have their answers. Each is a word at least, so there are at most as many as words: as `while`, each call would want a contract that what follows is shorter.
-fn answers_agree(questions: &[u32], of: Survey<'_>) -> bool {
+// Whether all questions have their answers. Each takes nine bytes at least, so there are at most as many as bytes: as `while`, each call would want a contract that what follows is shorter.
+fn answers_agree(questions: &[u8], of: Survey<'_>) -> bool {
     let mut rest = questions;
     for _ in 0..questions.len() {
         if rest.is_empty() {
@@ -214,25 +214,15 @@ fn answers_agree(questions: &[u32], of: Survey<'_>) -> bool {
 }
 
 // The words say how long questions and answers are; then come these, and the survey.
-pub fn survey_agrees(words: &[u32], descriptions: &[u32]) -> bool {
-    let [size, rest @ ..] = words else {
-        return false;
-    };
-    let Some((questions, list)) = rest.split_at_checked(*size as usize) else {
-        return false;
-    };
+pub fn survey_agrees(rest: &[u8], descriptions: &[u32]) -> Option<bool> {
+    let (size, rest) = cases::next(rest)?;
+    let (questions, list) = rest.split_at_checked((size? as usize).saturating_mul(9))?;
     let mut survey = [0u32; 16400];
-    match cases::list(list, &mut survey) {
-        Some(n) => {
-            let words = &survey[..n];
-            answers_agree(
-                questions,
-                Survey {
-                    descriptions,
-                    words,
-                },
-            )
-        }
-        None => false,
-    }
+    let n = cases::listed(list, &mut survey)?;
+    let words = &survey[..n];
+    let of = Survey {
+        descriptions,
+        words,
+    };
+    Some(answers_agree(questions, of))
 }

@@ -9,10 +9,11 @@ mod starts;
 mod words;
 
 use cases::Compare;
+use std::io::Write;
 use std::rt::Files;
 use std::{fs, io};
 
-// The set of descriptions that surveys go by, and how many words it has, where one is in hand.
+// The set of descriptions that surveys go by, and how many words it has; none where the last one had no room.
 #[derive(Drop)]
 struct InHand {
     set: [u32; 16400],
@@ -24,38 +25,36 @@ impl InHand {
         self.set.get(..self.held?)
     }
 
-    // The case's kind stands first: 0 a set of descriptions, 1 a survey that goes by the set in hand.
-    fn words_agree(&mut self, words: &[u32]) -> bool {
-        match words {
-            [0, list @ ..] => {
-                self.held = cases::list(list, &mut self.set);
-                self.held.is_some()
-            }
-            [_, rest @ ..] => match self.in_hand() {
-                Some(descriptions) => loads::survey_agrees(rest, descriptions),
-                None => false,
-            },
-            _ => false,
+    // The case's kind stands first: 0 a set of descriptions, any other a survey that goes by the set in hand.
+    fn rest_agrees(&mut self, rest: &[u8]) -> Option<bool> {
+        let (kind, rest) = cases::next(rest)?;
+        if kind == Some(0) {
+            self.held = cases::listed(rest, &mut self.set);
+            return Some(self.held.is_some());
         }
+        loads::survey_agrees(rest, self.in_hand()?)
     }
 }
 
 impl Compare for InHand {
-    fn agrees(&mut self, line: &[u8]) -> bool {
-        let mut words = [0u32; 32768];
-        match cases::words(line, &mut words) {
-            Some(n) => self.words_agree(&words[..n]),
+    // The words begin where the first token ends; no case asks for what follows its words.
+    fn agrees(&mut self, line: &[u8], _ended: bool) -> bool {
+        match line.get(scan::token(line, 0).end..) {
+            Some(rest) => self.rest_agrees(rest).unwrap_or(false),
             None => false,
         }
     }
 }
 
+// The name is written before the file is opened, so that it stands there whatever becomes of that.
 fn replay(rt: &(impl Files + Print), name: &str) -> io::Result<()> {
     let mut of = InHand {
         set: [0; 16400],
-        held: None,
+        held: Some(0),
     };
-    cases::replay(name, fs::open(rt, name), &mut of, &mut io::writer(rt))
+    let mut to = io::writer(rt);
+    write!(to, "{name}")?;
+    cases::replay("", fs::open(rt, name), &mut of, &mut to)
 }
 
 fn main(rt: HostRuntime) -> io::Result<()> {

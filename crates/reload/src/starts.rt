@@ -1,6 +1,6 @@
 // Whether a single walk answers what the words of a case say, and leaves its output as it should. oracle/make-walks says what questions and answers are.
 use crate::loads::Survey;
-use crate::words::{after_written, kept, mark, refuses};
+use crate::words::{after_written, kept, mark, number, refuses};
 use refusal::Site;
 use tables::Stand;
 
@@ -11,11 +11,11 @@ fn path_words(hops: usize) -> usize {
 
 // A walk into an output whose words are marked first.
 fn after_path<'a>(
-    rest: &'a [u32],
+    rest: &'a [u8],
     of: Survey<'_>,
     stand: Stand,
     output: &mut [u32],
-) -> Option<&'a [u32]> {
+) -> Option<&'a [u8]> {
     mark(output);
     let answer = walks::discover_path(of.descriptions, of.words, stand, output);
     let written = match answer {
@@ -26,14 +26,14 @@ fn after_path<'a>(
 }
 
 // The start's HopID and the room stand first, and then the answer.
-pub fn after_walk<'a>(rest: &'a [u32], of: Survey<'_>, site: Site) -> Option<&'a [u32]> {
+pub fn after_walk<'a>(rest: &'a [u8], of: Survey<'_>, site: Site) -> Option<&'a [u8]> {
     let mut output = [0u32; 16400];
-    let (start, rest) = rest.split_first()?;
-    let room = output.get_mut(..(*start / 65536) as usize)?;
+    let (start, rest) = number(rest)?;
+    let room = output.get_mut(..(start / 65536) as usize)?;
     let stand = Stand {
         place: site.place,
         adapter: site.adapter,
-        hop_id: (*start % 65536) as u16,
+        hop_id: (start % 65536) as u16,
     };
     after_path(rest, of, stand, room)
 }

@@ -33,13 +33,13 @@ pub fn refusal_word(r: Refusal) -> u32 {
 
 // An answer is its words, 0 where there is none, or its refusal.
 pub fn after<const N: usize>(
-    rest: &[u32],
+    rest: &[u8],
     answer: Result<Option<[u32; N]>, Refusal>,
-) -> Option<&[u32]> {
+) -> Option<&[u8]> {
     match answer {
-        Ok(Some(words)) => rest.strip_prefix(&words),
-        Ok(None) => rest.strip_prefix(&[0]),
-        Err(r) => rest.strip_prefix(&[refusal_word(r)]),
+        Ok(Some(words)) => cases::after(rest, &words),
+        Ok(None) => cases::after(rest, &[0]),
+        Err(r) => cases::after(rest, &[refusal_word(r)]),
     }
 }
 
@@ -58,23 +58,29 @@ pub fn mark(output: &mut [u32]) {
 
 // Whether no word from `from` on was written.
 pub fn kept(output: &[u32], from: usize) -> bool {
-    let mut marked = [0u32; 16400];
-    mark(&mut marked);
-    match output.get(from..) {
-        Some(rest) => marked.get(from..output.len()) == Some(rest),
-        None => false,
+    for i in from..output.len() {
+        if output[i] != FIRST.wrapping_add((i % 65536) as u32) {
+            return false;
+        }
     }
+    true
 }
 
 // The words that say an answer, and those that it wrote into the output, which are the first n and no others.
 pub fn after_written<'a, const N: usize>(
-    rest: &'a [u32],
+    rest: &'a [u8],
     answer: Result<Option<[u32; N]>, Refusal>,
     output: &[u32],
     n: usize,
-) -> Option<&'a [u32]> {
+) -> Option<&'a [u8]> {
     if !kept(output, n) {
         return None;
     }
-    after(rest, answer)?.strip_prefix(output.get(..n)?)
+    cases::after(after(rest, answer)?, output.get(..n)?)
+}
+
+// The number that stands next, 0 where nine bytes are none, and what follows it.
+pub fn number(rest: &[u8]) -> Option<(u32, &[u8])> {
+    let (word, rest) = cases::next(rest)?;
+    Some((word.unwrap_or(0), rest))
 }

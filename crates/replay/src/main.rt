@@ -9,9 +9,9 @@ mod routes;
 mod rule;
 mod surveys;
 
-ghost use Rattle.std.specs.Prelude.{◌≤◌, length, IfSome};
-
+use answer::Rest;
 use cases::Compare;
+use std::io::Write;
 use std::rt::Files;
 use std::{fs, io};
 
@@ -35,78 +35,74 @@ enum Cases {
     Named,
 }
 
-// What a file's cases are; the set of descriptions that a case about names goes by, and how many words it has, where one is in hand.
+// What a file's cases are; the set of descriptions that a case about names goes by, and how many words it has.
 #[derive(Drop)]
 struct InHand {
     cases: Cases,
     set: [u32; 16400],
-    held: Option<usize>,
-}
-
-// Puts a case's input into `bytes`; how many bytes it has.
-fn input(line: &[u8], bytes: &mut [u8]) -> Option<usize>
-    ensures { IfSome result (λ n. n ≤ length bytes.new) }
-{
-    cases::bytes(scan::token(line, 0).text, bytes)
+    held: usize,
 }
 
 fn input_agrees(
     kind: Kind,
-    words: &[u32],
+    rest: Rest<'_>,
     input: &[u8],
     scratch: &mut [u32],
     output: &mut [u32],
 ) -> bool {
     match kind {
-        Kind::Line => answer::line_agrees(words, input),
-        Kind::Dump => answer::dump_agrees(words, input, scratch, output),
-        Kind::Hex(max) => answer::number_agrees(words, util::parse_hex(input, max)),
-        Kind::Decimal(max) => answer::number_agrees(words, util::parse_decimal(input, max)),
-        Kind::Rule => rule::rule_agrees(words, input, scratch, output),
+        Kind::Line => answer::line_agrees(rest, input),
+        Kind::Dump => answer::dump_agrees(rest, input, scratch, output),
+        Kind::Hex(max) => answer::number_agrees(rest, util::parse_hex(input, max)),
+        Kind::Decimal(max) => answer::number_agrees(rest, util::parse_decimal(input, max)),
+        Kind::Rule => rule::rule_agrees(rest, input, scratch, output),
     }
 }
 
 // A case that the buffers are too small for doesn't agree.
-fn each_agrees(kind: Kind, line: &[u8], words: &[u32]) -> bool {
+fn each_agrees(kind: Kind, input: &[u8], rest: Rest<'_>) -> bool {
     let mut bytes = [0u8; 32768];
     let mut scratch = [0u32; 1024];
     let mut output = [0u32; 1024];
-    match input(line, &mut bytes) {
-        Some(n) => input_agrees(kind, words, &bytes[..n], &mut scratch, &mut output),
+    match cases::input(input, &mut bytes) {
+        Some(n) => input_agrees(kind, rest, &bytes[..n], &mut scratch, &mut output),
         None => false,
     }
 }
 
 impl InHand {
-    fn words_agree(&mut self, line: &[u8], words: &[u32]) -> bool {
+    fn rest_agrees(&mut self, input: &[u8], rest: Rest<'_>) -> bool {
         match self.cases {
-            Cases::Each(kind) => each_agrees(kind, line, words),
-            Cases::Routes => routes::route_agrees(words),
-            Cases::Beneath => routes::beneath_agrees(words),
-            Cases::Surveys => surveys::survey_agrees(words, &mut self.set),
-            Cases::Groups => surveys::group_agrees(words, &mut self.set),
-            Cases::Named => names::name_agrees(line, words, &mut self.set, &mut self.held),
+            Cases::Each(kind) => each_agrees(kind, input, rest),
+            Cases::Routes => routes::route_agrees(rest).unwrap_or(false),
+            Cases::Beneath => routes::beneath_agrees(rest).unwrap_or(false),
+            Cases::Surveys => surveys::survey_agrees(rest, &mut self.set).unwrap_or(false),
+            Cases::Groups => surveys::group_agrees(rest, &mut self.set).unwrap_or(false),
+            Cases::Named => names::name_agrees(input, rest, &mut self.set, &mut self.held),
         }
     }
 }
 
 impl Compare for InHand {
-    fn agrees(&mut self, line: &[u8]) -> bool {
-        let mut words = [0u32; 1024];
-        match cases::words(line, &mut words) {
-            Some(n) => self.words_agree(line, &words[..n]),
+    fn agrees(&mut self, line: &[u8], ended: bool) -> bool {
+        // The input ends where the first token does.
+        match line.split_at_checked(scan::token(line, 0).end) {
+            Some((input, bytes)) => self.rest_agrees(input, Rest { bytes, ended }),
             None => false,
         }
     }
 }
 
+// The name is written before the file is opened, so that it stands there whatever becomes of that.
 fn replay(rt: &(impl Files + Print), name: &str, cases: Cases) -> io::Result<()> {
     let mut of = InHand {
         cases,
         set: [0; 16400],
-        held: None,
+        held: 0,
     };
-    cases::replay(name, fs::open(rt, name), &mut of, &mut io::writer(rt))
+    let mut to = io::writer(rt);
+    write!(to, "{name}")?;
+    cases::replay("", fs::open(rt, name), &mut of, &mut to)
 }
 
 fn main(rt: HostRuntime) -> io::Result<()> {

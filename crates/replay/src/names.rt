@@ -1,72 +1,91 @@
 // Whether a call on descriptions answers what the words of a case say.
+use crate::answer::{Rest, low};
 use naming::Sought;
 use refusal::Refusal;
 
-// The case's kind stands first: 0 a set, 1 a question about the set in hand, 2 a list with the place of refusal 3.
-pub fn name_agrees(line: &[u8], words: &[u32], set: &mut [u32], held: &mut Option<usize>) -> bool {
-    match words {
-        [0, descriptions @ ..] => {
+// The case's kind stands first: 0 a set, 1 a question about the set in hand, 2 a list with the place of refusal 3. Any other lets go of the set.
+pub fn name_agrees(input: &[u8], rest: Rest<'_>, set: &mut [u32], held: &mut usize) -> bool {
+    match rest.next() {
+        Some((Some(0), descriptions)) => {
             *held = load(descriptions, set);
-            held.is_some() && description::check(descriptions).is_ok()
+            match set.get(..*held) {
+                Some(words) => description::check(words).is_ok(),
+                None => false,
+            }
         }
-        [1, question @ ..] => match held.and_then(|n| set.get(..n)) {
-            Some(descriptions) => question_agrees(line, question, descriptions),
+        Some((Some(1), question)) => match set.get(..*held) {
+            Some(descriptions) => question_agrees(input, question, descriptions),
             None => false,
         },
-        [2, status, place, list @ ..] => {
-            *held = None;
-            place_agrees(*status, *place as usize, list, set)
+        Some((Some(2), answer)) => {
+            *held = 0;
+            place_agrees(answer, set).unwrap_or(false)
         }
-        _ => false,
+        _ => {
+            *held = 0;
+            false
+        }
     }
 }
 
-fn load(descriptions: &[u32], set: &mut [u32]) -> Option<usize> {
-    let n = descriptions.len();
-    set.get_mut(..n)?.copy_from_slice(descriptions);
-    Some(n)
+// Puts the words up to the first that is none into the set, as far as there is room; how many.
+fn load(descriptions: Rest<'_>, set: &mut [u32]) -> usize {
+    let mut rest = descriptions;
+    for (i, slot) in set.iter_mut().enumerate() {
+        match rest.next() {
+            Some((Some(word), next)) => {
+                *slot = word;
+                rest = next;
+            }
+            _ => return i,
+        }
+    }
+    set.len()
 }
 
 // The words say 0 or 3 and the place; then comes the list.
-fn place_agrees(status: u32, place: usize, list: &[u32], words: &mut [u32]) -> bool {
-    let Some(n) = cases::list(list, words) else {
-        return false;
-    };
-    match description::check(&words[..n]) {
-        Ok(()) => status == 0,
-        Err(Refusal::Descriptions(p)) => status == 3 && p == place,
-        Err(_) => false,
+fn place_agrees(rest: Rest<'_>, words: &mut [u32]) -> Option<bool> {
+    let (status, rest) = rest.number()?;
+    let (place, rest) = rest.next()?;
+    let n = cases::listed(rest.bytes, words)?;
+    match description::check(words.get(..n)?) {
+        Ok(()) => Some(status == 0),
+        Err(Refusal::Descriptions(p)) => Some(status == 3 && p == place? as usize),
+        Err(_) => None,
     }
 }
 
 // The input is the wanted name.
-fn question_agrees(line: &[u8], question: &[u32], descriptions: &[u32]) -> bool {
+fn question_agrees(input: &[u8], question: Rest<'_>, descriptions: &[u32]) -> bool {
     let mut wanted = [0u8; 256];
-    match crate::input(line, &mut wanted) {
-        Some(n) => answered(question, descriptions, &wanted[..n]),
+    match cases::input(input, &mut wanted) {
+        Some(n) => answered(question, descriptions, &wanted[..n]).unwrap_or(false),
         None => false,
     }
 }
 
 // Six numbers are the question, and the answer follows.
-fn answered(words: &[u32], descriptions: &[u32], wanted: &[u8]) -> bool {
-    let [space, kind, offset, cap, vs, value, answer @ ..] = words else {
-        return false;
-    };
+fn answered(rest: Rest<'_>, descriptions: &[u32], wanted: &[u8]) -> Option<bool> {
+    let (space, rest) = rest.number()?;
+    let (kind, rest) = rest.number()?;
+    let (offset, rest) = rest.number()?;
+    let (cap, rest) = rest.number()?;
+    let (vs, rest) = rest.number()?;
+    let (value, rest) = rest.number()?;
     let q = Sought {
-        space: *space,
-        kind: *kind,
-        offset: *offset,
-        cap: *cap,
-        vs: *vs,
+        space,
+        kind,
+        offset,
+        cap,
+        vs,
     };
     if !routers_alike(descriptions, q) {
-        return false;
+        return None;
     }
     match metadata::describe(descriptions, q) {
-        Err(_) => false,
-        Ok(None) => answer == [0, 0, 6, 0, 6, 0].as_slice(),
-        Ok(Some(place)) => group_agrees(answer, descriptions, place, *value, wanted),
+        Err(_) => None,
+        Ok(None) => Some(rest.is(&[0, 0, 6, 0, 6, 0])),
+        Ok(Some(place)) => group_agrees(rest, descriptions, place, value, wanted),
     }
 }
 
@@ -79,33 +98,37 @@ fn routers_alike(descriptions: &[u32], q: Sought) -> bool {
 
 // The words of the name, whether it is the wanted name, the field, the flag, and the name itself.
 fn group_agrees(
-    words: &[u32],
+    rest: Rest<'_>,
     descriptions: &[u32],
     place: usize,
     value: u32,
     wanted: &[u8],
-) -> bool {
-    let [length, is, a, field_value, b, flag_value, name @ ..] = words else {
-        return false;
-    };
+) -> Option<bool> {
+    let name = metadata::name(descriptions, place);
+    let is = fields::name_is(descriptions, place, wanted) as u32;
     let field = metadata::field(descriptions, place, value, wanted);
     let flag = fields::find_flag(descriptions, place, wanted)
         .map(|f| util::bits(value, f.start, f.end))
         .ok_or(Refusal::NoField);
-    *name == *metadata::name(descriptions, place)
-        && *length as usize == name.len()
-        && *is == fields::name_is(descriptions, place, wanted) as u32
-        && is_read(*a, *field_value, field)
-        && is_read(*b, *flag_value, flag)
+    let (a, field_value) = read_words(field)?;
+    let (b, flag_value) = read_words(flag)?;
+    let rest = rest.after(&[
+        low(name.len() as u64),
+        is,
+        a,
+        field_value,
+        b,
+        flag_value,
+    ])?;
+    Some(rest.is(name))
 }
 
-// A field as the file has it: 0 and its value, or its refusal and 0.
-fn is_read(refusal: u32, value: u32, field: Result<u32, Refusal>) -> bool {
+// A field as the file has it: 0 and its value, or its refusal and 0. No case has another refusal.
+fn read_words(field: Result<u32, Refusal>) -> Option<(u32, u32)> {
     match field {
-        Ok(v) => refusal == 0 && value == v,
-        Err(Refusal::Descriptions(_)) => refusal == 3 && value == 0,
-        Err(Refusal::NoField) => refusal == 6 && value == 0,
-        // No case has another refusal.
-        Err(_) => false,
+        Ok(v) => Some((0, v)),
+        Err(Refusal::Descriptions(_)) => Some((3, 0)),
+        Err(Refusal::NoField) => Some((6, 0)),
+        Err(_) => None,
     }
 }

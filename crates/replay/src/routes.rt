@@ -1,36 +1,30 @@
 // Whether the route calls answer what the words of a case say.
-use crate::answer::wide;
+use crate::answer::{Rest, high, low};
 
 // A route as the file has it: 1 and its two words, or 0 and 0 and 0 for none.
-fn is_route(said: [u32; 3], route: Option<u64>) -> bool {
-    let [found, low, high] = said;
+fn route_words(route: Option<u64>) -> [u32; 3] {
     match route {
-        Some(v) => found == 1 && wide(low, high) == v,
-        None => said == [0, 0, 0],
+        Some(v) => [1, low(v), high(v)],
+        None => [0, 0, 0],
     }
 }
 
 // The words say a route and an adapter; then its depth, its upstream route and its downstream route.
-pub fn route_agrees(words: &[u32]) -> bool {
-    let [low, high, adapter, depth, a, b, c, d, e, f] = words else {
-        return false;
-    };
-    let way = wide(*low, *high);
-    let adapter = (*adapter % 256) as u8;
-    route::depth(way) == *depth
-        && is_route([*a, *b, *c], route::upstream_route(way))
-        && is_route([*d, *e, *f], route::downstream_route(way, adapter))
+pub fn route_agrees(rest: Rest<'_>) -> Option<bool> {
+    let (way, rest) = rest.wide()?;
+    let (adapter, rest) = rest.number()?;
+    let rest = rest.after(&[route::depth(way)])?;
+    let rest = rest.after(&route_words(route::upstream_route(way)))?;
+    let down = route::downstream_route(way, (adapter % 256) as u8);
+    Some(rest.is(&route_words(down)))
 }
 
 // The words say a router's route and a device's, of one domain; then 1 and the adapter between them, or 0 and 0.
-pub fn beneath_agrees(words: &[u32]) -> bool {
-    let [low, high, device_low, device_high, found, adapter] = words else {
-        return false;
-    };
-    let way = wide(*low, *high);
-    let device = wide(*device_low, *device_high);
+pub fn beneath_agrees(rest: Rest<'_>) -> Option<bool> {
+    let (way, rest) = rest.wide()?;
+    let (device, rest) = rest.wide()?;
     match route::downstream_adapter(0, way, 0, device) {
-        Some(n) => *found == 1 && *adapter == n as u32,
-        None => *found == 0 && *adapter == 0,
+        Some(n) => Some(rest.is(&[1, n as u32])),
+        None => Some(rest.is(&[0, 0])),
     }
 }

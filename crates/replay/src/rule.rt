@@ -1,121 +1,109 @@
 // The file `rules`: what the Rust doesn't say. The first word is the call, 0 the line reader, 1 the
 // dump reader, 2 the hex reader, 3 the decimal reader, 4 any of these on a long input;
 // oracle/make-rules says what follows each.
-use crate::answer::{number_agrees, record_words, wide};
+use crate::answer::{Rest, low, number_agrees, record_words};
 use refusal::Refusal;
 
-pub fn rule_agrees(words: &[u32], input: &[u8], scratch: &mut [u32], output: &mut [u32]) -> bool {
-    let [4, byte, count, rule @ ..] = words else {
-        return plain_rule(words, input, scratch, output);
-    };
-    let mut text = input::room::<1000000>();
-    let byte = (*byte % 256) as u8;
-    long_rule(
-        rule,
-        byte,
-        *count as usize,
-        input,
-        &mut text,
-        scratch,
-        output,
-    )
+pub fn rule_agrees(
+    rest: Rest<'_>,
+    input: &[u8],
+    scratch: &mut [u32],
+    output: &mut [u32],
+) -> bool {
+    match rest.next() {
+        Some((Some(4), rule)) => {
+            let mut text = input::room::<1000000>();
+            long_rule(rule, input, &mut text, scratch, output).unwrap_or(false)
+        }
+        _ => plain_rule(rest, input, scratch, output).unwrap_or(false),
+    }
 }
 
 // A rule on a long input: a byte so many times, and then the case's own bytes.
 fn long_rule(
-    rule: &[u32],
-    byte: u8,
-    count: usize,
+    rest: Rest<'_>,
     input: &[u8],
     text: &mut [u8],
     scratch: &mut [u32],
     output: &mut [u32],
-) -> bool {
+) -> Option<bool> {
+    let (byte, rest) = rest.number()?;
+    let (count, rule) = rest.next()?;
+    let count = count? as usize;
     if text.len() < count {
-        return false;
+        return None;
     }
     if text.len() - count < input.len() {
-        return false;
+        return None;
     }
-    text[..count].fill(byte);
+    text[..count].fill((byte % 256) as u8);
     text[count..count + input.len()].copy_from_slice(input);
     plain_rule(rule, &text[..count + input.len()], scratch, output)
 }
 
-fn plain_rule(words: &[u32], input: &[u8], scratch: &mut [u32], output: &mut [u32]) -> bool {
-    match words {
-        [0, answer @ ..] => line_rule(answer, input),
-        [1, s, o, answer @ ..] => sized_rule(
-            answer,
-            input,
-            *s as usize,
-            *o as usize,
-            scratch,
-            output,
-        ),
-        [2, low, high, answer @ ..] => {
-            number_agrees(answer, util::parse_hex(input, wide(*low, *high)))
+fn plain_rule(
+    rest: Rest<'_>,
+    input: &[u8],
+    scratch: &mut [u32],
+    output: &mut [u32],
+) -> Option<bool> {
+    let (call, rest) = rest.next()?;
+    match call? {
+        0 => Some(line_rule(rest, input)),
+        1 => sized_rule(rest, input, scratch, output),
+        2 => {
+            let (max, rest) = rest.wide()?;
+            Some(number_agrees(rest, util::parse_hex(input, max)))
         }
-        [3, low, high, answer @ ..] => {
-            number_agrees(answer, util::parse_decimal(input, wide(*low, *high)))
+        3 => {
+            let (max, rest) = rest.wide()?;
+            Some(number_agrees(rest, util::parse_decimal(input, max)))
         }
-        _ => false,
+        _ => None,
     }
 }
 
-fn line_rule(answer: &[u32], input: &[u8]) -> bool {
-    let [status, rest @ ..] = answer else {
-        return false;
-    };
+fn line_rule(rest: Rest<'_>, input: &[u8]) -> bool {
     match register::parse_debugfs(input) {
-        Ok(Some(r)) => *status == 0 && rest == record_words(r).as_slice(),
-        Ok(None) => *status == 0 && rest.is_empty(),
-        Err(Refusal::NotAscii(place)) => *status == 1 && is_size(rest, place),
+        Ok(Some(r)) => match rest.after(&[0]) {
+            Some(rest) => rest.is(&record_words(r)),
+            None => false,
+        },
+        Ok(None) => rest.is(&[0]),
+        Err(Refusal::NotAscii(place)) => rest.is(&[1, low(place as u64)]),
         Err(_) => false,
-    }
-}
-
-// Whether this is one word, of that value.
-fn is_size(words: &[u32], n: usize) -> bool {
-    match words {
-        [w] => *w as usize == n,
-        _ => false,
     }
 }
 
 // A dump into buffers of so many words.
 fn sized_rule(
-    words: &[u32],
+    rest: Rest<'_>,
     input: &[u8],
-    s: usize,
-    o: usize,
     scratch: &mut [u32],
     output: &mut [u32],
-) -> bool {
-    match scratch.get_mut(..s) {
-        Some(scratch) => match output.get_mut(..o) {
-            Some(output) => dump_rule(words, input, scratch, output),
-            None => false,
-        },
-        None => false,
-    }
+) -> Option<bool> {
+    let (s, rest) = rest.next()?;
+    let (o, rest) = rest.next()?;
+    let scratch = scratch.get_mut(..s? as usize)?;
+    let output = output.get_mut(..o? as usize)?;
+    dump_rule(rest, input, scratch, output)
 }
 
 // The answer, and then every word of both buffers.
-fn dump_rule(words: &[u32], input: &[u8], scratch: &mut [u32], output: &mut [u32]) -> bool {
-    let [status, size, buffers @ ..] = words else {
-        return false;
-    };
+fn dump_rule(
+    rest: Rest<'_>,
+    input: &[u8],
+    scratch: &mut [u32],
+    output: &mut [u32],
+) -> Option<bool> {
     cases::mark(scratch, 0x5c000000);
     cases::mark(output, 0x0a000000);
-    let agrees = match dump::read(input, scratch, output) {
-        Ok(n) => *status == 0 && *size as usize == n,
-        Err(Refusal::NotAscii(place)) => *status == 1 && *size as usize == place,
-        Err(Refusal::Short(needed)) => *status == 2 && *size as usize == needed,
-        Err(_) => false,
+    let answer = match dump::read(input, scratch, output) {
+        Ok(n) => [0, low(n as u64)],
+        Err(Refusal::NotAscii(place)) => [1, low(place as u64)],
+        Err(Refusal::Short(needed)) => [2, low(needed as u64)],
+        Err(_) => return None,
     };
-    match buffers.strip_prefix(scratch) {
-        Some(rest) => agrees && rest == output,
-        None => false,
-    }
+    let rest = rest.after(&answer)?.after(scratch)?;
+    Some(rest.is(output))
 }

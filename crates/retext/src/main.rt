@@ -5,6 +5,7 @@
 mod answer;
 
 use cases::Compare;
+use std::io::Write;
 use std::rt::Files;
 use std::{fs, io};
 
@@ -15,26 +16,29 @@ struct Texts;
 fn text_agrees(text: &[u8], printed: &[u8]) -> bool {
     // As much as the program reads.
     let mut bytes = input::room::<65537>();
-    let Some(n) = cases::bytes(text, &mut bytes) else {
-        return false;
-    };
-    let mut stored = input::room::<131072>();
-    match cases::bytes(printed, &mut stored) {
-        Some(m) => answer::is_printed(&stored[..m], &bytes[..n]),
+    match cases::input(text, &mut bytes) {
+        Some(n) => answer::is_printed(printed, &bytes[..n]),
         None => false,
     }
 }
 
+fn line_agrees(line: &[u8]) -> Option<bool> {
+    let blank = line.iter().position(|b| *b == b' ')?;
+    let (text, rest) = line.split_at_checked(blank)?;
+    Some(text_agrees(text, rest.get(1..)?))
+}
+
 impl Compare for Texts {
-    fn agrees(&mut self, line: &[u8]) -> bool {
-        let text = scan::token(line, 0);
-        let printed = scan::token(line, text.end);
-        printed.end == line.len() && text_agrees(text.text, printed.text)
+    fn agrees(&mut self, line: &[u8], _ended: bool) -> bool {
+        line_agrees(line).unwrap_or(false)
     }
 }
 
+// The name is written before the file is opened, so that it stands there whatever becomes of that.
 fn replay(rt: &(impl Files + Print), name: &str) -> io::Result<()> {
-    cases::replay(name, fs::open(rt, name), &mut Texts, &mut io::writer(rt))
+    let mut to = io::writer(rt);
+    write!(to, "{name}")?;
+    cases::replay("", fs::open(rt, name), &mut Texts, &mut to)
 }
 
 fn main(rt: HostRuntime) -> io::Result<()> {

@@ -28,4 +28,4 @@ loop-start-preserved g c =
     }
 
 pub returns-clause-counts : goal.returns-clause-counts
-returns-clause-counts g c = c.loop-start.invariant.rest _ _ (counts_end g.C.Compare.answers c.args.text.now c.loop-start.start c.loop-start.of c.loop-start.t (omega (arith, c.loop-start-test.false)))
+returns-clause-counts g c = c.loop-start.invariant.rest _ _ (counts_end g.C.Compare.answers c.args.text.now c.loop-start.start c.loop-start.of c.loop-start.t _ (omega (arith, c.loop-start-test.false)))
