@@ -71,6 +71,7 @@ pub extern "C" fn tunnels_check_survey(words: &[u32], answer: &mut [u64; 8])
 }
 
 // The head place of the group that names a register, or none; 3.
+#[tactic(auto, unfolding(answers::specs::Said::said, answers::specs::Said::padded, answers::specs::Said::perhaps, answers::specs::Said::words_in, refusal::specs::Outcome::bind))]
 #[unsafe(no_mangle)]
 pub extern "C" fn tunnels_describe(
     descriptions: &[u32],
@@ -151,6 +152,7 @@ pub extern "C" fn tunnels_link_speed(
 }
 
 // An adapter's largest HopID, or none; 3 to 9, 14, 6.
+#[tactic(auto, unfolding(answers::specs::Said::said, answers::specs::Said::padded, answers::specs::Said::perhaps, answers::specs::Said::words_in, refusal::specs::Outcome::bind))]
 #[unsafe(no_mangle)]
 pub extern "C" fn tunnels_max_hop(
     descriptions: &[u32],
@@ -167,6 +169,7 @@ pub extern "C" fn tunnels_max_hop(
 }
 
 // The place of a device's parent, or none; 3 to 9, 14, 6, 11.
+#[tactic(auto, unfolding(answers::specs::Said::said, answers::specs::Said::padded, answers::specs::Said::perhaps, answers::specs::Said::words_in, refusal::specs::Outcome::bind))]
 #[unsafe(no_mangle)]
 pub extern "C" fn tunnels_parent(
     descriptions: &[u32],

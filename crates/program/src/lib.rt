@@ -23,6 +23,7 @@ fn try_loaded(loaded: &Loaded) -> Result<usize, Refusal>
 }
 
 // What reading a text refuses, or what loading and trying answer.
+#[tactic(auto, using(crate::proofs::Opening::read_refused))]
 fn answer_of(read: Result<usize, Refusal>, loaded: &Loaded) -> Result<usize, Refusal>
     ensures { Answers read loaded.now result }
 {

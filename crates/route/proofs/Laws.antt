@@ -3,6 +3,8 @@ use Rattle.std.specs.Prelude.{None, Some}
 use Prim.Native.Nat.{ℕ, zero, suc, ◌+◌, ◌-◌, ◌*◌, ◌/◌, ◌%◌, ◌^◌, ◌<◌, ◌≤◌}
 use Rattle.std.specs.Int.{div_ceil}
 use Rattle.std.proofs.lemmas.Bool.{cases_lt}
+use Rattle.std.proofs.lemmas.Nat.{leading_length}
+use lib.Count.{count_leading_zeros}
 use native.Mathlib.Omega.{arith}
 use native.Mathlib.Nat.{div-lt_iff_lt-mul, mul-le-mul_right}
 use mathlib.Core.Path.{◌≡◌, refl, ◌∙◌, ap, sym, subst}
@@ -48,6 +50,13 @@ bytes_of_bits (suc k) r m l a b =
     (λ h. bytes_none k r h ∙ omega (arith, no_bits r m a b h))
     (λ h. bytes_more k r h ∙ ap suc (bytes_of_bits k (r / 256) (m - 8) (omega arith) n.0 n.1) ∙ omega (arith, some_bits r m a b h))
     (cases_lt r 1)
+
+pub depth_by_bits : (r : ℕ) → r < 2 ^ 64 → depth_of r ≡ div_ceil (64 - count_leading_zeros 64 r) 8
+unfolding depth_of
+depth_by_bits r h =
+    let n = leading_length 64 r h in
+    let e : 64 - count_leading_zeros 64 r ≡ n.0 = omega (arith, n.1) in
+    bytes_of_bits 8 r n.0 (omega (arith, n.1)) n.2 n.3 ∙ sym (ap (λ m. div_ceil m 8) e)
 
 pub bytes_le : (k r : ℕ) → used_bytes k r ≤ k
 unfolding used_bytes

@@ -6,6 +6,7 @@ ghost use Rattle.route.specs.Route.{depth_of, upstream_route, downstream_route, 
 use usb4::ROUTE_SHIFT;
 
 // How many routers a route passes: the bytes up to the last that is not 0.
+#[tactic(auto, using(crate::proofs::Laws::depth_by_bits))]
 pub fn depth(route: u64) -> u32
     ensures { result ≡ depth_of route }
 {
