@@ -54,15 +54,18 @@ fn after_pages<'a>(stored: &'a [u8], tables: &Tables, buffer: &mut [u8]) -> Opti
     Some(rest)
 }
 
+// Here, and not where a text is opened, so that the buffer is cleared only where there are pages; as much as the program lends for one.
+fn after_tables<'a>(stored: &'a [u8], tunnels: usize, tables: &Tables) -> Option<&'a [u8]> {
+    let mut buffer = input::room::<786432>();
+    let rest = after_total(stored, tunnels)?;
+    after_pages(rest, tables, &mut buffer)
+}
+
 fn after_text<'a>(stored: &'a [u8], text: &[u8]) -> Option<&'a [u8]> {
     let opened = program::open(text);
     let answer = opened.answer;
     match (answer, opened.loaded.tables()) {
-        (Ok(tunnels), Ok(tables)) => {
-            // As much as the program lends for a page.
-            let mut buffer = input::room::<786432>();
-            after_pages(after_total(stored, tunnels)?, &tables, &mut buffer)
-        }
+        (Ok(tunnels), Ok(tables)) => after_tables(stored, tunnels, &tables),
         (Ok(_), Err(refusal)) => after_refused(stored, refusal),
         (Err(refusal), _) => after_refused(stored, refusal),
     }
