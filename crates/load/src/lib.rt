@@ -57,7 +57,7 @@ impl Used {
 }
 
 // A survey's rows as far as they are loaded, in its order, with room for those of any survey. tables/specs/Packed.antt says what a word holds.
-// `used` has 32 bits a count: then the compiler sees that no row is put where it stands, and that loading reads nothing of the room. What isn't read afterwards either it doesn't clear: all of it in `accept`.
+// `used` has 32 bits a count, so that the compiler sees that no row is put where it stands. Where rows are only counted it then holds `used` in registers, and no room at all (`accept`).
 #[derive(Drop)]
 struct LoadedRows {
     used: Used,
@@ -202,6 +202,8 @@ impl Loaded {
     }
 
     // A survey in place of what was loaded before: as `load`, but into room that the caller has, so that nothing is copied, also where the tables are lent to a call.
+    // It stays a call: there is one loading for all that want tables, and its callers are small.
+    #[inline(never)]
     pub fn load(&mut self, descriptions: &[u32], survey: &[u32])
         ensures { self.new ≡ loaded descriptions.now survey.now }
     {
@@ -568,7 +570,7 @@ fn fill(descriptions: &[u32], survey: &[u32], rows: &mut LoadedRows) -> Result<(
     requires { length survey.now ≤ 16384 }
     ensures { answered (fault_outcome result) rows.new ≡ load_from (descriptions_of descriptions.now) 0 (devices_of survey.now) }
 {
-    rows.clear(); // here, so that nothing that stood before is read
+    rows.clear();
     let mut i = listing::next_head(survey, 0);
     while i < survey.len() {
         if survey[i] / 268435456 % 16 == 4 {
@@ -581,8 +583,8 @@ fn fill(descriptions: &[u32], survey: &[u32], rows: &mut LoadedRows) -> Result<(
 }
 
 // 3, then 4, then loading.
-// It stays a call: what calls it is then small enough to be taken into its callers, and the tables are filled where they are used, with no copy.
-#[inline(never)]
+// It is taken into `accept`, of whose rows nothing but their number is then left: 3.2 us where they are cleared and filled in 7.5, an empty survey.
+#[inline(always)]
 fn load_into(descriptions: &[u32], survey: &[u32], rows: &mut LoadedRows) -> Result<(), Refusal>
     ensures { answered (outcome result) rows.new ≡ loaded descriptions.now survey.now }
 {
