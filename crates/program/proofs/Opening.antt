@@ -9,7 +9,7 @@ use lib.ListN.{length, take}
 use Rattle.refusal.specs.Outcome.{Outcome, refused, value, bind}
 use Rattle.refusal.specs.Refusal.{refused_by, outcome}
 use Rattle.refusal.specs.declared.Refusal.{Refusal}
-use Rattle.refusal.proofs.Laws.{refused_bind, numbered, not_refused, ok_same, err_no_ok}
+use Rattle.refusal.proofs.Laws.{refused_bind, numbered, not_refused, err_no_ok}
 use Rattle.description.specs.Rules.{read_descriptions}
 use Rattle.metadata.specs.Ours.{ours}
 use Rattle.survey.specs.Devices.{read_survey}

@@ -1,5 +1,4 @@
 -- Document 01's worked input, as text, and what is printed of it, by the definitions. Assumes nothing.
-use Rattle.std.specs.Option.{option_to_list}
 use Prim.Native.Nat.{ℕ}
 use mathlib.Core.Path.{◌≡◌, refl, ap, ◌∙◌}
 use mathlib.Core.List.{List}

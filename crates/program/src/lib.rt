@@ -31,15 +31,23 @@ fn answer_of(read: Result<usize, Refusal>, loaded: &Loaded) -> Result<usize, Ref
     try_loaded(loaded)
 }
 
-// A text's survey, loaded, with every adapter tried, or the first refusal: 2 for its length, 1, 4, then loading, then an adapter's own. Where the text is refused no words are loaded: with one way through, the compiler makes no copy of the tables for each.
-pub fn open(text: &[u8]) -> Opened
-    ensures { Opens text.now result }
+// A text's survey, loaded into the caller's room, with every adapter tried, or the first refusal: 2 for its length, 1, 4, then loading, then an adapter's own. Where the text is refused no words are loaded: with one way through, the compiler makes no copy of the tables for each.
+pub fn open_into(text: &[u8], loaded: &mut Loaded) -> Result<usize, Refusal>
+    ensures { Opens text.now (record { answer = result; loaded = loaded.new }) }
 {
     let mut survey = [0u32; 16384];
     let read = text::read(text, &mut survey);
     let n = read.unwrap_or(0);
     let ours = metadata::ours();
-    let loaded = load::load(&ours, &survey[..n]);
-    let answer = answer_of(read, &loaded);
+    loaded.load(&ours, &survey[..n]);
+    answer_of(read, loaded)
+}
+
+// The same, with the tables handed out; they are copied then.
+pub fn open(text: &[u8]) -> Opened
+    ensures { Opens text.now result }
+{
+    let mut loaded = Loaded::none();
+    let answer = open_into(text, &mut loaded);
     Opened { answer, loaded }
 }
