@@ -53,6 +53,7 @@ pub extern "C" fn tunnels_read_dump(
 }
 
 // Whether description words are well formed, or 3.
+#[tactic(auto, unfolding(answers::specs::Said::said, answers::specs::Said::padded, answers::specs::Said::always, answers::specs::Said::bare, refusal::specs::Outcome::bind))]
 #[unsafe(no_mangle)]
 pub extern "C" fn tunnels_check_descriptions(words: &[u32], answer: &mut [u64; 8])
     ensures { answer.new ≡ said (always bare (check_of words.now)) }
