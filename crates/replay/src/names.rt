@@ -112,14 +112,7 @@ fn group_agrees(
         .ok_or(Refusal::NoField);
     let (a, field_value) = read_words(field)?;
     let (b, flag_value) = read_words(flag)?;
-    let rest = rest.after(&[
-        low(name.len() as u64),
-        is,
-        a,
-        field_value,
-        b,
-        flag_value,
-    ])?;
+    let rest = rest.after(&[low(name.len() as u64), is, a, field_value, b, flag_value])?;
     Some(rest.is(name))
 }
 

@@ -4,12 +4,7 @@
 use crate::answer::{Rest, low, number_agrees, record_words};
 use refusal::Refusal;
 
-pub fn rule_agrees(
-    rest: Rest<'_>,
-    input: &[u8],
-    scratch: &mut [u32],
-    output: &mut [u32],
-) -> bool {
+pub fn rule_agrees(rest: Rest<'_>, input: &[u8], scratch: &mut [u32], output: &mut [u32]) -> bool {
     match rest.next() {
         Some((Some(4), rule)) => {
             let mut text = input::room::<1000000>();
