@@ -1,5 +1,6 @@
 // What the program prints of a text, page by page, against the stored answer, pairs of hex digits in lower case: each call gives what follows what is printed, or none where
 // other bytes stand. So it needs no room, however much is printed.
+use load::Loaded;
 use refusal::Refusal;
 use tables::Tables;
 
@@ -62,9 +63,9 @@ fn after_tables<'a>(stored: &'a [u8], tunnels: usize, tables: &Tables) -> Option
 }
 
 fn after_text<'a>(stored: &'a [u8], text: &[u8]) -> Option<&'a [u8]> {
-    let opened = program::open(text);
-    let answer = opened.answer;
-    match (answer, opened.loaded.tables()) {
+    let mut loaded = Loaded::none();
+    let answer = program::open_into(text, &mut loaded);
+    match (answer, loaded.tables()) {
         (Ok(tunnels), Ok(tables)) => after_tables(stored, tunnels, &tables),
         (Ok(_), Err(refusal)) => after_refused(stored, refusal),
         (Err(refusal), _) => after_refused(stored, refusal),

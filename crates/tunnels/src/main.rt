@@ -1,7 +1,7 @@
 // Reads the text of a survey from standard input and prints its tunnels, by our descriptions; or only `refused N`.
 #![tactic(auto)]
 
-use program::Opened;
+use load::Loaded;
 use refusal::Refusal;
 use std::io;
 use tables::Tables;
@@ -84,9 +84,12 @@ fn write_tables(rt: &impl Print, tables: &Tables) -> io::Result<()> {
 }
 
 // Writes the lines of a text that was opened, or its refusal.
-fn write_opened(rt: &impl Print, opened: &Opened) -> io::Result<()> {
-    let answer = opened.answer;
-    match (answer, opened.loaded.tables()) {
+fn write_opened(
+    rt: &impl Print,
+    answer: Result<usize, Refusal>,
+    loaded: &Loaded,
+) -> io::Result<()> {
+    match (answer, loaded.tables()) {
         (Ok(tunnels), Ok(tables)) => {
             write_total(rt, tunnels)?;
             write_tables(rt, &tables)
@@ -98,8 +101,9 @@ fn write_opened(rt: &impl Print, opened: &Opened) -> io::Result<()> {
 
 // Nothing is written before all adapters were tried.
 fn write_text(rt: &impl Print, text: &[u8]) -> io::Result<()> {
-    let opened = program::open(text);
-    write_opened(rt, &opened)
+    let mut loaded = Loaded::none();
+    let answer = program::open_into(text, &mut loaded);
+    write_opened(rt, answer, &loaded)
 }
 
 fn main(rt: HostRuntime) -> io::Result<()> {
