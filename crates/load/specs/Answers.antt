@@ -10,11 +10,15 @@ use Rattle.tables.specs.declared.DeviceFacts.{DeviceFacts}
 use Rattle.tables.specs.declared.Tables.{Tables}
 use Rattle.load.specs.Loading.{loaded}
 use Rattle.load.specs.declared.Counts.{Counts}
+use Rattle.load.specs.declared.Used.{Used}
 use Rattle.refusal.specs.declared.Refusal.{Refusal}
 
 -- The rows that are held, as far as they are counted. Free is what stands past those, and which of several codes for one meaning stands in a word.
 unfoldable pub held : List ℕ → List ℕ → List DeviceFacts → Counts → Rows
 held en ad de c = record { entries = entries_in (take c.entries en); adapters = adapters_in (take c.adapters ad); devices = devices_in (take c.devices de) }
+
+abbrev pub counts_used : Used → Counts
+counts_used u = record { entries = u.entries; adapters = u.adapters; devices = u.devices }
 
 -- as many as there is room for, and how long the table of devices is
 pub record Counted (de : List DeviceFacts) (c : Counts) : Type 0 where

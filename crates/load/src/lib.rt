@@ -15,7 +15,7 @@ ghost use Rattle.tables.specs.Rows.{no_rows, joined};
 ghost use Rattle.tables.specs.Packed.{speed_by, number_by, entry_word, adapter_word, device_row};
 ghost use Rattle.tables.specs.Tables.{rows_of, Fits, Tabled};
 ghost use Rattle.load.specs.Loading.{and_then, load_adapter, load_adapters, router_cs1, upstream_in, fitting, load_device, load_from, loaded};
-ghost use Rattle.load.specs.Answers.{answered, tables_rows, counts_of};
+ghost use Rattle.load.specs.Answers.{answered, tables_rows, counts_of, counts_used};
 ghost use Rattle.load.specs.Work.{HopFits, one_entry, one_adapter, one_device, entry_rows, Room, FieldsAt, KeptFor, Passed, ToDevice, fits_by};
 ghost use Rattle.refusal.specs.Refusal.{fault_outcome, outcome, field_at};
 
@@ -36,10 +36,33 @@ pub struct Counts {
     pub devices: usize,
 }
 
+// The same in 32 bits, of room that is used.
+#[derive(Clone, Copy)]
+struct Used {
+    entries: u32,
+    adapters: u32,
+    devices: u32,
+}
+
+impl Used {
+    #[inline(always)]
+    fn counts(self) -> Counts
+        ensures { result ≡ counts_used self }
+    {
+        Counts {
+            entries: self.entries as usize,
+            adapters: self.adapters as usize,
+            devices: self.devices as usize,
+        }
+    }
+}
+
 // A survey's rows as far as they are loaded, in its order, with room for those of any survey. tables/specs/Packed.antt says what a word holds.
+// `used` has 32 bits a count, so that the compiler sees that no row is put where it stands. Where rows are only counted, in `accept`, it then holds `used` in registers, and no room at all.
+// For that all that loads is taken into `accept`, and `#[inline(always)]` down to here: a call would be handed the room.
 #[derive(Drop)]
 struct LoadedRows {
-    counts: Counts,
+    used: Used,
     entries: [u64; 4096],
     adapters: [u64; 16384],
     devices: [DeviceFacts; 4096],
@@ -50,26 +73,51 @@ impl Model for LoadedRows {
 
     ghost Value = { Rows };
 
-    ghost use Rattle.load.specs.Answers.{held, Counted};
+    ghost use Rattle.load.specs.Answers.{held, counts_used, Counted};
 
-    ghost view = { λ r. held r.entries r.adapters r.devices r.counts };
+    ghost view = { λ r. held r.entries r.adapters r.devices (counts_used r.used) };
 
-    ghost invariant = { λ r. Counted r.devices r.counts };
+    ghost invariant = { λ r. Counted r.devices (counts_used r.used) };
 }
 
 impl LoadedRows {
+    // No rows yet.
+    #[inline(always)]
+    fn none() -> Self
+        ensures { result ≡ no_rows }
+    {
+        LoadedRows {
+            used: Used {
+                entries: 0,
+                adapters: 0,
+                devices: 0,
+            },
+            entries: [0; 4096],
+            adapters: [0; 16384],
+            devices: [DeviceFacts {
+                kind: Kind::Domain,
+                usb4: false,
+                domain: 0,
+                route: 0,
+                upstream: Ok(None),
+            }; 4096],
+        }
+    }
+
     // How many rows there are.
+    #[inline(always)]
     fn counts(&self) -> Counts
         ensures { result ≡ counts_of self.now }
     {
-        self.counts
+        self.used.counts()
     }
 
     // Leaves no rows.
+    #[inline(always)]
     fn clear(&mut self)
         ensures { self.new ≡ no_rows }
     {
-        self.counts = Counts {
+        self.used = Used {
             entries: 0,
             adapters: 0,
             devices: 0,
@@ -77,11 +125,12 @@ impl LoadedRows {
     }
 
     // Each of these puts a row behind the others of its kind.
+    #[inline(always)]
     fn put_entry(&mut self, site: Site, in_hop: u32, out: EntryOut)
         requires { (length self.old.entries < 4096) × (site.place < 65536) × (in_hop < 65536) }
         ensures { self.new ≡ joined self.old (one_entry (record { device = site.place; adapter = site.adapter; in_hop = in_hop; out_adapter = out.out_adapter; out_hop = out.out_hop })) }
     {
-        let n = self.counts.entries;
+        let n = self.used.entries as usize;
         self.entries[n] = entry_word(
             site.place,
             site.adapter,
@@ -89,25 +138,27 @@ impl LoadedRows {
             out.out_adapter,
             out.out_hop,
         );
-        self.counts.entries = n + 1;
+        self.used.entries += 1;
     }
 
+    #[inline(always)]
     fn put_adapter(&mut self, place: usize, facts: Facts)
         requires { (length self.old.adapters < 16384) × (place < 65536) × HopFits facts.max_hop }
         ensures { self.new ≡ joined self.old (one_adapter (facts_row place facts)) }
     {
-        let n = self.counts.adapters;
+        let n = self.used.adapters as usize;
         self.adapters[n] = adapter_word(place, facts);
-        self.counts.adapters = n + 1;
+        self.used.adapters += 1;
     }
 
+    #[inline(always)]
     fn put_device(&mut self, device: DeviceFacts)
         requires { length self.old.devices < 4096 }
         ensures { self.new ≡ joined self.old (one_device (device_row (length self.old.devices) device)) }
     {
-        let n = self.counts.devices;
+        let n = self.used.devices as usize;
         self.devices[n] = device;
-        self.counts.devices = n + 1;
+        self.used.devices += 1;
     }
 
     // The parts of the tables that are used.
@@ -115,7 +166,7 @@ impl LoadedRows {
         ensures rows { rows_of result ≡ self.now }
         ensures fits { Fits result }
     {
-        let counts = self.counts;
+        let counts = self.used.counts();
         Tables {
             entries: &self.entries[..counts.entries],
             adapters: &self.adapters[..counts.adapters],
@@ -153,30 +204,16 @@ impl Loaded {
     {
         Loaded {
             answer: Err(Refusal::Missing),
-            rows: LoadedRows {
-                counts: Counts {
-                    entries: 0,
-                    adapters: 0,
-                    devices: 0,
-                },
-                entries: [0; 4096],
-                adapters: [0; 16384],
-                devices: [DeviceFacts {
-                    kind: Kind::Domain,
-                    usb4: false,
-                    domain: 0,
-                    route: 0,
-                    upstream: Ok(None),
-                }; 4096],
-            },
+            rows: LoadedRows::none(),
         }
     }
 
-    // A survey in place of what was loaded before. As `load`, but into room that the caller has: nothing is copied then, also where the tables are lent to a call.
+    // A survey in place of what was loaded before: as `load`, but into room that the caller has, so that nothing is copied, also where the tables are lent to a call.
+    // It stays a call: there is one loading for all that want tables, and its callers are small.
+    #[inline(never)]
     pub fn load(&mut self, descriptions: &[u32], survey: &[u32])
         ensures { self.new ≡ loaded descriptions.now survey.now }
     {
-        self.rows.clear();
         self.answer = load_into(descriptions, survey, &mut self.rows);
     }
 
@@ -279,6 +316,7 @@ fn keep(
 }
 
 // Puts the entry of the path register at i, if it is one.
+#[inline(always)]
 fn push_entry(
     survey: &[u32],
     i: usize,
@@ -304,6 +342,7 @@ fn push_entry(
 }
 
 // Puts the entries of the path registers from a place on, and says where they end.
+#[inline(always)]
 fn push_from(
     descriptions: &[u32],
     survey: &[u32],
@@ -337,6 +376,7 @@ fn push_from(
 }
 
 // The entries of the adapter whose head stands at a place: none where its kind has no least HopID.
+#[inline(always)]
 fn push_entries(
     descriptions: &[u32],
     survey: &[u32],
@@ -356,6 +396,7 @@ fn push_entries(
 }
 
 // The adapter whose head stands at a place: 5, state, 9, entries. Answers where its words end.
+#[inline(always)]
 fn load_adapter(
     descriptions: &[u32],
     survey: &[u32],
@@ -388,6 +429,7 @@ fn load_adapter(
 }
 
 // The adapters from a place on, up to the next device. Answers where that stands.
+#[inline(always)]
 fn load_adapters(
     descriptions: &[u32],
     survey: &[u32],
@@ -503,6 +545,7 @@ fn fits_device(
 }
 
 // The device whose head stands at a place: 5; whether its adapters fit; then each adapter. Answers where the next device stands.
+#[inline(always)]
 fn load_device(
     descriptions: &[u32],
     survey: &[u32],
@@ -536,10 +579,12 @@ fn load_device(
 }
 
 // All devices, one after another.
+#[inline(always)]
 fn fill(descriptions: &[u32], survey: &[u32], rows: &mut LoadedRows) -> Result<(), Fault>
-    requires { (rows.old ≡ no_rows) × (length survey.now ≤ 16384) }
+    requires { length survey.now ≤ 16384 }
     ensures { answered (fault_outcome result) rows.new ≡ load_from (descriptions_of descriptions.now) 0 (devices_of survey.now) }
 {
+    rows.clear();
     let mut i = listing::next_head(survey, 0);
     while i < survey.len() {
         if survey[i] / 268435456 % 16 == 4 {
@@ -552,10 +597,9 @@ fn fill(descriptions: &[u32], survey: &[u32], rows: &mut LoadedRows) -> Result<(
 }
 
 // 3, then 4, then loading.
-// It stays a call: both `load` are then small enough to be taken into their callers, and the tables are where they are used (10.7 us where it is 22, a survey of 101 words and one search).
-#[inline(never)]
+// It is taken into `accept`, of whose rows nothing but their number is then left: 3 us where it is 7.5, a survey of 116 words.
+#[inline(always)]
 fn load_into(descriptions: &[u32], survey: &[u32], rows: &mut LoadedRows) -> Result<(), Refusal>
-    requires { rows.old ≡ no_rows }
     ensures { answered (outcome result) rows.new ≡ loaded descriptions.now survey.now }
 {
     description::check(descriptions)?;
@@ -577,7 +621,7 @@ pub fn load(descriptions: &[u32], survey: &[u32]) -> Loaded
 pub fn accept(descriptions: &[u32], survey: &[u32]) -> Result<Counts, Refusal>
     ensures { outcome result ≡ bind (loaded descriptions.now survey.now) (λ x. value (counts_of x)) }
 {
-    let loaded = load(descriptions, survey);
-    loaded.answer?;
-    Ok(loaded.rows.counts())
+    let mut rows = LoadedRows::none();
+    load_into(descriptions, survey, &mut rows)?;
+    Ok(rows.counts())
 }

@@ -4,7 +4,7 @@ use native.Mathlib.Omega.{arith}
 use Rattle.load.proofs.fill.Goals as goal
 
 pub loop-i-init : goal.loop-i-init
-loop-i-init c = filling_start _ _ _ _ c.requires.0 c.requires.1 c.next_head-i.ensures
+loop-i-init c = filling_start _ _ _ _ c.clear.ensures c.requires c.next_head-i.ensures
 
 pub loop-i-smaller-then-survey-i-eq4 : goal.loop-i-smaller-then-survey-i-eq4
 loop-i-smaller-then-survey-i-eq4 c = omega (arith, (filling_adapter _ _ _ _ _ c.loop-i.invariant _ c.loop-i-test.true c.if-survey-i-eq4.true c.next_head-i-then-survey-i-eq4.ensures).0, c.loop-i-test.true)

@@ -13,7 +13,7 @@ returns-in_err-check-2 c = let p = err_from_is_err_and c.from_residual-in_err-ch
     rw (p.1, p.2) (into_survey _ _ (sym (ap outcome c.in_ok-check.was) ∙ c.check.ensures) _ _ c.check-2.ensures c.in_err-check-2.was _)
 
 pub fill-requires : goal.fill-requires
-fill-requires c = (c.requires, short _ (sym (ap outcome c.in_ok-check-2.was) ∙ c.check-2.ensures))
+fill-requires c = short _ (sym (ap outcome c.in_ok-check-2.was) ∙ c.check-2.ensures)
 
 pub returns-in_err-fill : goal.returns-in_err-fill
 returns-in_err-fill c = let p = err_from_is_err_and c.from_residual-in_err-fill.result c.from_residual-in_err-fill.ensures.1 in
