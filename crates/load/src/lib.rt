@@ -597,7 +597,7 @@ fn fill(descriptions: &[u32], survey: &[u32], rows: &mut LoadedRows) -> Result<(
 }
 
 // 3, then 4, then loading.
-// It is taken into `accept`, of whose rows nothing but their number is then left: 3 us where it is 7.5, a survey of 116 words.
+// It is taken into `accept`, of whose rows nothing but their number is then left: 3 us where it is 7.5, a survey of 101 words.
 #[inline(always)]
 fn load_into(descriptions: &[u32], survey: &[u32], rows: &mut LoadedRows) -> Result<(), Refusal>
     ensures { answered (outcome result) rows.new ≡ loaded descriptions.now survey.now }
