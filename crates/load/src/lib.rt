@@ -45,6 +45,7 @@ struct Used {
 }
 
 impl Used {
+    #[inline(always)]
     fn counts(self) -> Counts
         ensures { result ≡ counts_used self }
     {
@@ -57,7 +58,8 @@ impl Used {
 }
 
 // A survey's rows as far as they are loaded, in its order, with room for those of any survey. tables/specs/Packed.antt says what a word holds.
-// `used` has 32 bits a count, so that the compiler sees that no row is put where it stands. Where rows are only counted it then holds `used` in registers, and no room at all (`accept`).
+// `used` has 32 bits a count, so that the compiler sees that no row is put where it stands. Where rows are only counted, in `accept`, it then holds `used` in registers, and no room at all.
+// For that all that loads is taken into `accept`, and `#[inline(always)]` down to here: a call would be handed the room.
 #[derive(Drop)]
 struct LoadedRows {
     used: Used,
@@ -103,6 +105,7 @@ impl LoadedRows {
     }
 
     // How many rows there are.
+    #[inline(always)]
     fn counts(&self) -> Counts
         ensures { result ≡ counts_of self.now }
     {
@@ -110,6 +113,7 @@ impl LoadedRows {
     }
 
     // Leaves no rows.
+    #[inline(always)]
     fn clear(&mut self)
         ensures { self.new ≡ no_rows }
     {
@@ -121,6 +125,7 @@ impl LoadedRows {
     }
 
     // Each of these puts a row behind the others of its kind.
+    #[inline(always)]
     fn put_entry(&mut self, site: Site, in_hop: u32, out: EntryOut)
         requires { (length self.old.entries < 4096) × (site.place < 65536) × (in_hop < 65536) }
         ensures { self.new ≡ joined self.old (one_entry (record { device = site.place; adapter = site.adapter; in_hop = in_hop; out_adapter = out.out_adapter; out_hop = out.out_hop })) }
@@ -136,6 +141,7 @@ impl LoadedRows {
         self.used.entries += 1;
     }
 
+    #[inline(always)]
     fn put_adapter(&mut self, place: usize, facts: Facts)
         requires { (length self.old.adapters < 16384) × (place < 65536) × HopFits facts.max_hop }
         ensures { self.new ≡ joined self.old (one_adapter (facts_row place facts)) }
@@ -145,6 +151,7 @@ impl LoadedRows {
         self.used.adapters += 1;
     }
 
+    #[inline(always)]
     fn put_device(&mut self, device: DeviceFacts)
         requires { length self.old.devices < 4096 }
         ensures { self.new ≡ joined self.old (one_device (device_row (length self.old.devices) device)) }
@@ -309,6 +316,7 @@ fn keep(
 }
 
 // Puts the entry of the path register at i, if it is one.
+#[inline(always)]
 fn push_entry(
     survey: &[u32],
     i: usize,
@@ -334,6 +342,7 @@ fn push_entry(
 }
 
 // Puts the entries of the path registers from a place on, and says where they end.
+#[inline(always)]
 fn push_from(
     descriptions: &[u32],
     survey: &[u32],
@@ -367,6 +376,7 @@ fn push_from(
 }
 
 // The entries of the adapter whose head stands at a place: none where its kind has no least HopID.
+#[inline(always)]
 fn push_entries(
     descriptions: &[u32],
     survey: &[u32],
@@ -386,6 +396,7 @@ fn push_entries(
 }
 
 // The adapter whose head stands at a place: 5, state, 9, entries. Answers where its words end.
+#[inline(always)]
 fn load_adapter(
     descriptions: &[u32],
     survey: &[u32],
@@ -418,6 +429,7 @@ fn load_adapter(
 }
 
 // The adapters from a place on, up to the next device. Answers where that stands.
+#[inline(always)]
 fn load_adapters(
     descriptions: &[u32],
     survey: &[u32],
@@ -533,6 +545,7 @@ fn fits_device(
 }
 
 // The device whose head stands at a place: 5; whether its adapters fit; then each adapter. Answers where the next device stands.
+#[inline(always)]
 fn load_device(
     descriptions: &[u32],
     survey: &[u32],
@@ -566,6 +579,7 @@ fn load_device(
 }
 
 // All devices, one after another.
+#[inline(always)]
 fn fill(descriptions: &[u32], survey: &[u32], rows: &mut LoadedRows) -> Result<(), Fault>
     requires { length survey.now ≤ 16384 }
     ensures { answered (fault_outcome result) rows.new ≡ load_from (descriptions_of descriptions.now) 0 (devices_of survey.now) }
@@ -583,7 +597,7 @@ fn fill(descriptions: &[u32], survey: &[u32], rows: &mut LoadedRows) -> Result<(
 }
 
 // 3, then 4, then loading.
-// It is taken into `accept`, of whose rows nothing but their number is then left: 3.2 us where they are cleared and filled in 7.5, an empty survey.
+// It is taken into `accept`, of whose rows nothing but their number is then left: 3 us where it is 7.5, a survey of 101 words.
 #[inline(always)]
 #[tactic(auto, unfolding(crate::specs::Loading::loaded, description::specs::Rules::read_descriptions), using(refusal::proofs::Laws::refused_bind))]
 fn load_into(descriptions: &[u32], survey: &[u32], rows: &mut LoadedRows) -> Result<(), Refusal>
