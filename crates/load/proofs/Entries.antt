@@ -65,7 +65,7 @@ module _ (ds : List Description) (s : Site) (k least : ℕ) (r : Register) where
   entries_one e = ap (λ (b : Bool). cond b (bind (entry_of s r (named ds path_space k r)) (λ e. bind (value []) (λ es. value (with_entry e es)))) (value [])) e
 
 -- the registers of a list, one after another
-entries_cons : (ds : List Description) (s : Site) (k least : ℕ) (r : Register) (rs : List Register)
+pub entries_cons : (ds : List Description) (s : Site) (k least : ℕ) (r : Register) (rs : List Register)
     → entries_from ds s k least (r ∷ rs) ≡ bind (entries_from ds s k least (r ∷ [])) (λ es. bind (entries_from ds s k least rs) (λ fs. value (es ++ fs)))
 unfolding entries_from bind with_entry
 entries_cons ds s k least r rs = go (leb (2 * least) r.offset && eqb (r.offset % 2) 0) (entry_of s r (named ds path_space k r)) (entries_from ds s k least rs)

@@ -39,7 +39,7 @@ use Rattle.load.proofs.Counting.{device_more}
 
 -- ---- rows and outcomes
 
-joined_assoc : (a b c : Rows) → joined (joined a b) c ≡ joined a (joined b c)
+pub joined_assoc : (a b c : Rows) → joined (joined a b) c ≡ joined a (joined b c)
 unfolding joined
 joined_assoc a b c = rw (append_assoc a.entries b.entries c.entries, append_assoc a.adapters b.adapters c.adapters, append_assoc a.devices b.devices c.devices) refl
 
@@ -51,11 +51,11 @@ then_values : (a b : Rows) → and_then (value a) (value b) ≡ value (joined a 
 unfolding and_then bind
 then_values a b = refl
 
-then_fault : (a : Rows) (f : Fault) → and_then (value a) (refusal_of f) ≡ refusal_of f
+pub then_fault : (a : Rows) (f : Fault) → and_then (value a) (refusal_of f) ≡ refusal_of f
 unfolding and_then bind
 then_fault a f = fault_bind f (λ y. value (joined a y))
 
-fault_then : (f : Fault) (b : Outcome Rows) → and_then (refusal_of f) b ≡ refusal_of f
+pub fault_then : (f : Fault) (b : Outcome Rows) → and_then (refusal_of f) b ≡ refusal_of f
 unfolding and_then
 fault_then f b = fault_bind f (λ x. bind b (λ y. value (joined x y)))
 
@@ -121,7 +121,7 @@ module _ (t : List ℕ) (i : ℕ) (x : Rows) (r : Room t i x) where
   room_device l d y k = put (i + 4) (one_device d) y l (omega arith) (omega arith) (omega arith) k
 
 -- the next head isn't before where it was looked for
-next_past : (t : List ℕ) (i r : ℕ) → NextHead t i r → i ≤ length t → i ≤ r
+pub next_past : (t : List ℕ) (i r : ℕ) → NextHead t i r → i ≤ length t → i ≤ r
 next_past t i r n h = go (dec_lt r (length t))
   where
     go : Dec (r < length t) → i ≤ r
@@ -214,7 +214,7 @@ module _ (t : List ℕ) (at w : ℕ) (e : w ≡ word t at) where
   device_told ds p kind domain low high up k d l h u =
       rw (k, d, l, h, u, same_usb4, e) refl
 
-fits_by_lem : (ds : List Description) (p : ℕ) (d : Device) (as' : List Adapter) → fits ds p d as' ≡ fits_by p as' (router_cs1 ds d)
+pub fits_by_lem : (ds : List Description) (p : ℕ) (d : Device) (as' : List Adapter) → fits ds p d as' ≡ fits_by p as' (router_cs1 ds d)
 unfolding fits fits_by
 fits_by_lem ds p d [] = refl
 fits_by_lem ds p d (a ∷ rest) = refl

@@ -15,7 +15,7 @@ use Rattle.load.specs.Work.{one_entry, one_adapter, one_device}
 use Rattle.load.specs.declared.Counts.{Counts}
 
 -- one word more
-put_word : {A : Type 0} (f : ℕ → A) (t : List ℕ) (n w : ℕ) → n < length t → map f (take (n + 1) (set t n w)) ≡ map f (take n t) ++ (f w ∷ [])
+pub put_word : {A : Type 0} (f : ℕ → A) (t : List ℕ) (n w : ℕ) → n < length t → map f (take (n + 1) (set t n w)) ≡ map f (take n t) ++ (f w ∷ [])
 put_word f t n w h = rw (add-one n, take-suc-set t n w h, map-append f (take n t) (w ∷ [])) refl
 
 devices_snoc : (p : ℕ) (de : List DeviceFacts) (d : DeviceFacts) → devices_from p (de ++ (d ∷ [])) ≡ devices_from p de ++ (device_row (p + length de) d ∷ [])
