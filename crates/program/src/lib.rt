@@ -31,7 +31,7 @@ fn answer_of(read: Result<usize, Refusal>, loaded: &Loaded) -> Result<usize, Ref
     try_loaded(loaded)
 }
 
-// A text's survey, loaded into the caller's room, with every adapter tried, or the first refusal: 2 for its length, 1, 4, then loading, then an adapter's own. Where the text is refused no words are loaded: with one way through, the compiler makes no copy of the tables for each.
+// A text's survey, loaded into the caller's room, with every adapter tried, or the first refusal: 2 for its length, 1, 4, then loading, then an adapter's own. Where the text is refused no words are loaded, so that what is tried is always what was loaded from the text.
 pub fn open_into(text: &[u8], loaded: &mut Loaded) -> Result<usize, Refusal>
     ensures { Opens text.now (record { answer = result; loaded = loaded.new }) }
 {
