@@ -73,6 +73,25 @@ fn print<W: Write>(name: &str, t: Totals, to: &mut W) -> io::Result<()>
     )
 }
 
+// What is written of a file that was opened. It stays a call: its room is cleared each time, 1,000,000 bytes, and a file that is missing needs none.
+#[inline(never)]
+fn replay_opened<R: Read, W: Write, C: Compare>(
+    name: &str,
+    file: &mut R,
+    of: &mut C,
+    to: &mut W,
+) -> io::Result<()>
+    ensures { OnOk result (Replayed C.answers of.old of.new name.now (R.remaining file.old) (Appends (W.contents to.old) (W.contents to.new))) }
+{
+    let mut text = input::room::<1000000>();
+    let n = input::read_full(file, &mut text)?;
+    if n == 1000000 {
+        return write!(to, "{name} too long\n");
+    }
+    let t = count(&text[..n], of);
+    print(name, t, to)
+}
+
 // Compares the cases of a file and writes a line of totals: cases, how many agree and differ, and the line of the first that differs. A file that is missing or too
 // long says so instead.
 pub fn replay<R: Read + Drop, W: Write, C: Compare>(
@@ -87,11 +106,5 @@ pub fn replay<R: Read + Drop, W: Write, C: Compare>(
     let Ok(mut file) = file else {
         return write!(to, "{name} missing\n");
     };
-    let mut text = input::room::<1000000>();
-    let n = input::read_full(&mut file, &mut text)?;
-    if n == 1000000 {
-        return write!(to, "{name} too long\n");
-    }
-    let t = count(&text[..n], of);
-    print(name, t, to)
+    replay_opened(name, &mut file, of, to)
 }

@@ -1,23 +1,75 @@
--- Laws of the rules: the bytes of good_name, and the loop of check. Assumes nothing.
-use Rattle.std.specs.List.{list_all, range_with_len}
-use Prim.Native.Nat.{ℕ, zero, suc, ◌+◌, ◌≤◌, ◌<◌}
+-- Laws of the rules: the words of good_name, and the loop of check. Assumes nothing.
+use Prim.Native.Nat.{ℕ, suc, ◌+◌, ◌-◌, ◌*◌, ◌≤◌, ◌<◌}
+use Rattle.std.specs.Prelude.{◌/◌, ◌%◌, ◌^◌}
 use mathlib.Core.Path.{◌≡◌, refl, sym, ap, ◌∙◌}
 use mathlib.Core.List.{List, [], ◌∷◌}
 use mathlib.Core.Bool.{Bool, true, false, cond, false≢true, ◌&&◌}
 use native.Mathlib.Omega.{arith}
+use native.Mathlib.Nat.{div-one, sub-zero}
 use lib.Dec.{eqb}
 use lib.ListN.{length}
 use borrow.Author.Tests.{eqb-true}
 use Rattle.refusal.specs.Outcome.{refused, value}
-use Rattle.layout.specs.Layout.{word, kind, byte_at, size_of, heads}
+use Rattle.layout.specs.Layout.{word, kind, byte_at, name_words, size_of, heads}
 use Rattle.layout.proofs.Laws.{Rest, rest_all, rest_next, rest_end}
-use Rattle.description.specs.Rules.{good_byte, good_bytes, good_register, good_group, first_bad}
+use Rattle.description.specs.Work.{good_word}
+use Rattle.description.specs.Rules.{good_byte, good_bytes, good_name, good_register, good_group, first_bad}
 
--- the bytes from byte j on, one by one
-pub bytes_all : (t : List ℕ) (p n j k : ℕ) → list_all (λ i. good_byte n i (byte_at t p i)) (range_with_len j k) ≡ good_bytes t p n j k
+-- byte j of a name is byte i of its word k
+byte_in : (t : List ℕ) (p k i j : ℕ) → j ≡ 4 * k + i → i < 4 → byte_at t p j ≡ word t (p + k) / 256 ^ i % 256
+unfolding byte_at
+byte_in t p k i j e h =
+    let d : j / 4 ≡ k = omega (arith, e, h) in
+    let m : j % 4 ≡ i = omega (arith, e, h) in
+    rw (d, m) refl
+
+four_first : (a b c d e : Bool) → (a && (b && (c && (d && e)))) ≡ (a && b && c && d && e)
+four_first true true true d e = refl
+four_first true true false d e = refl
+four_first true false c d e = refl
+four_first false b c d e = refl
+
+-- four bytes of a name are one word
+word_bytes : (t : List ℕ) (p n k r : ℕ) → good_bytes t p n (4 * k) (suc (suc (suc (suc r)))) ≡ (good_word n (4 * k) (word t (p + k)) && good_bytes t p n (4 * k + 4) r)
+unfolding good_bytes good_word
+word_bytes t p n k r =
+    let w = word t (p + k) in
+    let e2 : 4 * k + 1 + 1 ≡ 4 * k + 2 = omega arith in
+    let e3 : 4 * k + 2 + 1 ≡ 4 * k + 3 = omega arith in
+    let e4 : 4 * k + 3 + 1 ≡ 4 * k + 4 = omega arith in
+    let b0 : byte_at t p (4 * k) ≡ w % 256 = byte_in t p k 0 (4 * k) (omega arith) (omega arith) ∙ rw div-one refl in
+    let b1 : byte_at t p (4 * k + 1) ≡ w / 256 % 256 = byte_in t p k 1 (4 * k + 1) refl (omega arith) in
+    let b2 : byte_at t p (4 * k + 2) ≡ w / 65536 % 256 = byte_in t p k 2 (4 * k + 2) refl (omega arith) in
+    let b3 : byte_at t p (4 * k + 3) ≡ w / 16777216 % 256 = byte_in t p k 3 (4 * k + 3) refl (omega arith) in
+    rw (e2, e3, e4, b0, b1, b2, b3) (four_first (good_byte n (4 * k) (w % 256)) (good_byte n (4 * k + 1) (w / 256 % 256)) (good_byte n (4 * k + 2) (w / 65536 % 256)) (good_byte n (4 * k + 3) (w / 16777216 % 256)) (good_bytes t p n (4 * k + 4) r))
+
+-- the words of a name of n bytes from word k on
+abbrev pub words_from : List ℕ → ℕ → ℕ → ℕ → Bool
+words_from t p n k = good_bytes t p n (4 * k) (4 * (name_words n - k))
+
+module _ (t : List ℕ) (p n k : ℕ) (h : k < name_words n) where
+  next_word : words_from t p n k ≡ (good_word n (4 * k) (word t (p + k)) && words_from t p n (k + 1))
+  next_word =
+      let r = 4 * (name_words n - (k + 1)) in
+      let e : 4 * (name_words n - k) ≡ suc (suc (suc (suc r))) = omega (arith, h) in
+      let f : 4 * k + 4 ≡ 4 * (k + 1) = omega arith in
+      ap (λ m. good_bytes t p n (4 * k) m) e ∙ word_bytes t p n k r ∙ ap (λ j. good_word n (4 * k) (word t (p + k)) && good_bytes t p n j r) f
+
+  pub word_bad : good_word n (4 * k) (word t (p + k)) ≡ false → words_from t p n k ≡ false
+  word_bad e = next_word ∙ ap (λ b. b && words_from t p n (k + 1)) e
+
+  pub word_on : good_word n (4 * k) (word t (p + k)) ≡ true → words_from t p n k ≡ words_from t p n (k + 1)
+  word_on e = next_word ∙ ap (λ b. b && words_from t p n (k + 1)) e
+
+pub words_all : (t : List ℕ) (p n : ℕ) → good_name t p n ≡ words_from t p n 0
+unfolding good_name
+words_all t p n = ap (λ m. good_bytes t p n 0 (4 * m)) (sym (sub-zero (name_words n)))
+
+pub words_end : (t : List ℕ) (p n k : ℕ) → name_words n ≤ k → words_from t p n k ≡ true
 unfolding good_bytes
-bytes_all t p n j zero = refl
-bytes_all t p n j (suc k) = ap (λ b. good_byte n j (byte_at t p j) && b) (bytes_all t p n (j + 1) k)
+words_end t p n k h =
+    let e : 4 * (name_words n - k) ≡ 0 = omega (arith, h) in
+    ap (λ m. good_bytes t p n (4 * k) m) e
 
 -- the loop of check, over what is left of the heads
 abbrev pub Checking : List ℕ → ℕ → Type 0

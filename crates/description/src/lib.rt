@@ -1,8 +1,9 @@
 // Description words: the check of their rules (refusal 3).
 #![tactic(auto)]
 
-ghost use Rattle.std.specs.Prelude.{◌≡◌, ◌<◌, length};
+ghost use Rattle.std.specs.Prelude.{◌≡◌, ◌+◌, ◌<◌, ◌≤◌, length};
 ghost use Rattle.description.specs.Rules.{good_byte, good_name, zero_unless, good_head, good_range, good_register, good_field, good_group, check_of};
+ghost use Rattle.description.specs.Work.{good_word};
 ghost use Rattle.refusal.specs.Refusal.{outcome};
 
 use refusal::Refusal;
@@ -23,12 +24,29 @@ fn good_byte(n: u32, j: u32, b: u32) -> bool
     b <= 126
 }
 
-// A name of n bytes at place p, zero padded.
+// The four bytes of a word, which are those from byte j on of a name of n bytes.
+#[tactic(auto, unfolding(crate::specs::Work::good_word))]
+fn good_word(n: u32, j: u32, w: u32) -> bool
+    requires { j < 256 }
+    ensures { result ≡ good_word n j w }
+{
+    good_byte(n, j, w % 256)
+        && good_byte(n, j + 1, w / 256 % 256)
+        && good_byte(n, j + 2, w / 65536 % 256)
+        && good_byte(n, j + 3, w / 16777216 % 256)
+}
+
+// A name of n bytes at place p, zero padded. Word by word, since a check is mostly this.
 fn good_name(t: &[u32], p: usize, n: u32) -> bool
-    requires { n < 256 }
+    requires { (n < 256) × (p ≤ length t.now + 64) }
     ensures { result ≡ good_name t.now p n }
 {
-    (0..4 * ((n + 3) / 4)).all(|j| good_byte(n, j, layout::byte_at(t, p, j as usize)))
+    for k in 0..(n + 3) / 4 {
+        if !good_word(n, 4 * k, layout::word_at(t, p + k as usize)) {
+            return false;
+        }
+    }
+    true
 }
 
 // What is not had is 0.

@@ -198,7 +198,7 @@ impl Model for Loaded {
 
 impl Loaded {
     // No survey yet: 14, and room for the tables of any.
-    #[inline(always)]
+    // Not `#[inline(always)]`: then it is taken into its callers before its own parts are put in place, and where such a caller is a call itself these are cleared apart and copied.
     pub fn none() -> Self
         ensures { result ≡ refused 14 [] }
     {
